@@ -1,28 +1,32 @@
--- The head of the response to an exchange that fills no hole keeps it: what it brings to the client is not whole yet.
-use Rattle.std.proofs.Common.{◌≡◌, ◌⊎◌, refl, ℕ, ◌<◌, Bool, true, false, not, ◌==◌, ◌&&◌, ◌||◌, List, codes, Option, Some, None, inl, inr, sym, subst, ap, ◌∙◌}
+-- The head of a response keeps it: what it brings to the client is not whole yet.
+use Rattle.std.proofs.Common.{◌≡◌, ◌⊎◌, refl, ℕ, ◌<◌, Bool, true, false, not, ◌==◌, ◌&&◌, ◌||◌, List, [], ◌∷◌, codes, Option, Some, None, inl, inr, sym, subst, ap, ◌∙◌}
 use Rattle.std.specs.List.{list_any}
 use Rattle.pp_framing.specs.declared.body.BodyRule.{BodyRule}
 use Rattle.pp_fresh.specs.declared.aging.Times.{Times}
 use Rattle.pp_head.specs.Response.{Response}
 use Rattle.pp_objects.specs.Kept.{kept_of}
+use Rattle.pp_target.specs.Key.{Key, text_of}
 use Rattle.pp_text.specs.Fields.{has_field}
 use Rattle.pp_valid.specs.declared.version.Version.{Version}
-use Rattle.pp_law.specs.Connections.{anew, attempts_of, is_exchange, is_for, lost_one, on_exchange, without_shared_row}
-use Rattle.pp_law.specs.Lists.{change, is_some_with, is_this}
-use Rattle.pp_law.specs.OwnHeads.{cleared_by, clears_row, drop_answer, forbids_sharing, is_asked_by, is_of_another, is_widened, key_of, known_version, may_join, may_refresh, names_version, not_modified, not_shared, nothing_to_come, other_head, own_head, relay_head, relayed, renew, renew_row, renewed, settle, settle_known, settle_on, settle_unchanged, span_to_come, tell, times_for, unchanged, use_body, useless, version_in}
+use Rattle.pp_law.specs.Closing.{left_alone}
+use Rattle.pp_law.specs.Connections.{anew, attempts_of, charge, exchange, give_up_row, is_exchange, is_for, is_unfilled, lose_attempt, lost_one, on_client_of, on_exchange, without_row, without_shared_row}
+use Rattle.pp_law.specs.Lists.{Bytes, change, is_some_with, is_this}
+use Rattle.pp_law.specs.OwnHeads.{cleared_by, clears_row, drop_answer, forbids_sharing, is_asked_by, is_of_another, is_widened, key_of, known_version, may_join, may_refresh, names_version, not_modified, not_shared, nothing_to_come, other_head, own_head, other_part, part_head, filling_head, count_elsewhere, is_bound, lacks_next, is_private_part, relay_head, relayed, renew, renew_row, renewed, settle, settle_known, settle_on, settle_unchanged, span_to_come, tell, times_for, unchanged, use_body, useless, version_in}
 use Rattle.pp_law.specs.Passing.{passed_by}
+use Rattle.pp_law.specs.Responses.{by_aim}
 use Rattle.pp_law.specs.Stages.{filled_of, is_begun, is_headed, is_pending}
 use Rattle.pp_law.specs.State.{State, Body, Joining, Dropping, Relaying, Brought, Useless, Joins, Passes, TooWide, Client, Exchange, Instance}
-use Rattle.pp_law.specs.Table.{row}
+use Rattle.pp_law.specs.Table.{clear, row, swept}
+use Rattle.pp_law.specs.ThroughHeads.{clear_each, clear_named, disproved, disproves, invalidated, invalidates, is_same_host, key_named, places_named, reads, through_head}
 use Rattle.pp_laws.specs.Runs.{IsIn}
 use Rattle.pp_laws.proofs.Lists.{Changed, changed_at, in_change, other, same}
 use Rattle.pp_laws.proofs.Tests.{first_holds, number_same, same_number}
-use Rattle.pp_laws_turn.proofs.Cases.{each_of, when}
+use Rattle.pp_laws_turn.proofs.Cases.{by_aim_of, each_of, when}
 use Rattle.pp_laws_turn.proofs.Rows.{clear-keeps, make_row-keeps, mark_row-keeps, on_instance-keeps}
 use Rattle.pp_laws_turn.proofs.View.{Holds, KeepsRows, View, facts_of, holds}
-use Rattle.pp_laws_coming.proofs.Attempts.{MayBeLeft, lose_attempt-comes}
+use Rattle.pp_laws_coming.proofs.Attempts.{MayBeLeft, alike, alike_left, lose_attempt-comes}
 use Rattle.pp_laws_coming.proofs.Clients.{on_client_of-comes}
-use Rattle.pp_laws_coming.proofs.Facts.{Coming, Facts, Goes, IsTold, apart_mapped, callers_mapped, goes_as, goes_on, is_whole_in}
+use Rattle.pp_laws_coming.proofs.Facts.{Coming, Facts, Goes, IsTold, MayLeave, apart_mapped, callers_mapped, goes_as, goes_on, is_whole_in}
 use Rattle.pp_laws_coming.specs.Coming.{Waits}
 
 -- ---- an exchange that a head comes to
@@ -31,11 +35,8 @@ use Rattle.pp_laws_coming.specs.Coming.{Waits}
 abbrev pub Ready : Exchange → View → Type 0
 Ready e v = Coming v × IsIn e v.exchanges × (e.place ≡ None → ⊥)
 
-ready_rows : (e : Exchange) → KeepsRows (Ready e)
+pub ready_rows : (e : Exchange) → KeepsRows (Ready e)
 ready_rows e xs next v from h = h
-
-comes : (e : Exchange) (s : State) → Holds (Ready e) s → Holds Coming s
-comes e s h = holds (facts_of h).0
 
 abbrev with_body : Body → Exchange → Exchange
 with_body body e = record e { body = body }
@@ -144,22 +145,52 @@ module _ (e : Exchange) (body : Body) (come : is_pending body ≡ false) (cs : L
       let one : r.was ≡ e = h.apart r.was e r.there there (sym r.number ∙ number) in
       let both : None ≡ Some v = sym none ∙ r.fills ∙ ap filled_of one ∙ fills in cc both
 
--- its client is told of it, and its body goes somewhere
-told-comes : (e : Exchange) (b : Brought) (body : Body) (s : State) → is_pending body ≡ false → is_whole_in b ≡ false → Holds (Ready e) s → Holds Coming (tell e b (use_body e body s))
-unfolding tell use_body on_exchange
-told-comes e b body s come more h = let w = facts_of h in holds (told_come e body come s.clients s.exchanges s.next_exchange w.1 w.2 w.0 b more)
+-- ---- behind it
 
-drop_answer-comes : (e : Exchange) (s : State) → Holds (Ready e) s → Holds Coming (drop_answer e s)
+-- where its row is given up, it may be left
+abbrev pub Done : Exchange → View → Type 0
+Done e v = Coming v × MayBeLeft e v.exchanges
+
+comes : (e : Exchange) (s : State) → Holds (Ready e) s → Holds (Done e) s
+comes e s h = let w = facts_of h in holds (w.0, alike_left e s.exchanges (alike e s w.1 (holds w.0)))
+
+left_on : (e : Exchange) (es : List Exchange) → MayBeLeft e es → MayBeLeft e (change (is_exchange e.number) left_alone es)
+left_on e es may v fills x i number = by (in_change (is_exchange e.number) left_alone x es i)
+  where
+    by : Changed (is_exchange e.number) left_alone es x → MayLeave x
+    by (same j isnt) = may v fills x j number
+    by (other y j hit eq) = λ none nowhere. may v fills y j (sym (ap (λ (z : Exchange). z.number) eq) ∙ number) (sym (ap filled_of eq) ∙ none) (sym (ap (λ (z : Exchange). z.place) eq) ∙ nowhere)
+
+left_lost : (e : Exchange) (s : State) → MayBeLeft e s.exchanges → MayBeLeft e (lose_attempt e s).exchanges
+unfolding lose_attempt charge give_up_row clear swept on_client_of on_exchange
+left_lost e s may = by (is_unfilled (on_client_of e (λ c. record c { course = lost_one (attempts_of e) c.course }) s) e)
+  where
+    lost : State
+    lost = on_client_of e (λ c. record c { course = lost_one (attempts_of e) c.course }) s
+
+    by : (t : Bool) → MayBeLeft e (elim t as (λ c. State) [ false ↦ lost | true ↦ on_exchange e.number left_alone (on_client_of e without_row (clear (text_of e.key) lost)) ]).exchanges
+    by false = may
+    by true = left_on e s.exchanges may
+
+lose_attempt-done : (e : Exchange) (s : State) → Holds (Done e) s → Holds (Done e) (lose_attempt e s)
+lose_attempt-done e s h = let w = facts_of h in holds (facts_of (lose_attempt-comes e s w.1 (holds w.0)), left_lost e s w.1)
+
+on_client_of-done : (e : Exchange) (f : Client → Client) (s : State) → ((c : Client) → Goes (f c) c) → Holds (Done e) s → Holds (Done e) (on_client_of e f s)
+unfolding on_client_of
+on_client_of-done e f s goes h = let w = facts_of h in holds (facts_of (on_client_of-comes e f s goes (holds w.0)), w.1)
+
+-- its client is told of it, and its body goes somewhere
+told-comes : (e : Exchange) (b : Brought) (body : Body) (s : State) → is_pending body ≡ false → is_whole_in b ≡ false → Holds (Ready e) s → Holds (Done e) (tell e b (use_body e body s))
+unfolding tell use_body on_exchange
+told-comes e b body s come more h = let w = facts_of h in holds (told_come e body come s.clients s.exchanges s.next_exchange w.1 w.2 w.0 b more, left_told e body come s.clients s.exchanges s.next_exchange w.1 w.2 w.0)
+
+drop_answer-comes : (e : Exchange) (s : State) → Holds (Ready e) s → Holds (Done e) (drop_answer e s)
 unfolding drop_answer
 drop_answer-comes e s h = told-comes e Useless Dropping s refl refl h
 
-left_dropped : (e : Exchange) (s : State) → Holds (Ready e) s → MayBeLeft e (drop_answer e s).exchanges
-unfolding drop_answer tell use_body on_exchange
-left_dropped e s h = let w = facts_of h in left_told e Dropping refl s.clients s.exchanges s.next_exchange w.1 w.2 w.0
-
-useless-comes : (e : Exchange) (s : State) → Holds (Ready e) s → Holds Coming (useless e s)
+useless-comes : (e : Exchange) (s : State) → Holds (Ready e) s → Holds (Done e) (useless e s)
 unfolding useless
-useless-comes e s h = lose_attempt-comes e (drop_answer e s) (left_dropped e s h) (drop_answer-comes e s h)
+useless-comes e s h = lose_attempt-done e (drop_answer e s) (drop_answer-comes e s h)
 
 -- ---- a response with a version
 
@@ -171,15 +202,15 @@ renew_row-ready : (e : Exchange) (head : Response) (s : State) → Holds (Ready 
 unfolding renew_row
 renew_row-ready e head s h = each_of (row s (key_of e)) h (λ x. renew-ready e x head (times_for e head s) s h)
 
-settle_on-comes : (e : Exchange) (head : Response) (v : Version) (s : State) → Holds (Ready e) s → Holds Coming (settle_on e head v s)
+settle_on-comes : (e : Exchange) (head : Response) (v : Version) (s : State) → Holds (Ready e) s → Holds (Done e) (settle_on e head v s)
 unfolding settle_on
 settle_on-comes e head v s h = each_of (row s (key_of e)) (comes e s h) (λ x. told-comes e (Joins x.id (not (has_field (codes "age") head.fields))) (Joining (span_to_come e head v x.id)) s refl refl h)
 
-settle_known-comes : (e : Exchange) (head : Response) (v : Version) (s : State) → Holds (Ready e) s → Holds Coming (settle_known e head v s)
+settle_known-comes : (e : Exchange) (head : Response) (v : Version) (s : State) → Holds (Ready e) s → Holds (Done e) (settle_known e head v s)
 unfolding settle_known
 settle_known-comes e head v s h = when (may_refresh e head s) (settle_on-comes e head v _ (renew_row-ready e head s h)) (useless-comes e s h)
 
-settle-comes : (e : Exchange) (head : Response) (v : Version) (s : State) → Holds (Ready e) s → Holds Coming (settle e head v s)
+settle-comes : (e : Exchange) (head : Response) (v : Version) (s : State) → Holds (Ready e) s → Holds (Done e) (settle e head v s)
 unfolding settle
 settle-comes e head v s h =
     when (is_some_with (may_join e head v) (known_version s (key_of e)))
@@ -188,11 +219,11 @@ settle-comes e head v s h =
 
 -- ---- 304
 
-settle_unchanged-comes : (e : Exchange) (s : State) → Holds (Ready e) s → Holds Coming (settle_unchanged e s)
+settle_unchanged-comes : (e : Exchange) (s : State) → Holds (Ready e) s → Holds (Done e) (settle_unchanged e s)
 unfolding settle_unchanged
 settle_unchanged-comes e s h = each_of (row s (key_of e)) (comes e s h) (λ x. told-comes e (Joins x.id false) (Joining (nothing_to_come x)) s refl refl h)
 
-unchanged-comes : (e : Exchange) (head : Response) (s : State) → Holds (Ready e) s → Holds Coming (unchanged e head s)
+unchanged-comes : (e : Exchange) (head : Response) (s : State) → Holds (Ready e) s → Holds (Done e) (unchanged e head s)
 unfolding unchanged
 unchanged-comes e head s h = when (is_some_with (names_version e) (known_version s (key_of e)) && may_refresh e head s) (settle_unchanged-comes e _ (renew_row-ready e head s h)) (useless-comes e s h)
 
@@ -205,11 +236,11 @@ without_shared_goes most c = by (c.has_given_up && not (is_begun c)) (is_begun c
     by false true = goes_on c
     by false false = goes_as _ c refl refl refl
 
-not_shared-comes : (e : Exchange) (s : State) → Holds (Ready e) s → Holds Coming (not_shared e s)
+not_shared-comes : (e : Exchange) (s : State) → Holds (Ready e) s → Holds (Done e) (not_shared e s)
 unfolding not_shared
-not_shared-comes e s h = on_client_of-comes e (without_shared_row (attempts_of e)) _ (without_shared_goes (attempts_of e)) (drop_answer-comes e _ (clear-keeps (ready_rows e) (key_of e) s h))
+not_shared-comes e s h = on_client_of-done e (without_shared_row (attempts_of e)) _ (without_shared_goes (attempts_of e)) (drop_answer-comes e _ (clear-keeps (ready_rows e) (key_of e) s h))
 
-not_modified-comes : (e : Exchange) (head : Response) (s : State) → Holds (Ready e) s → Holds Coming (not_modified e head s)
+not_modified-comes : (e : Exchange) (head : Response) (s : State) → Holds (Ready e) s → Holds (Done e) (not_modified e head s)
 unfolding not_modified
 not_modified-comes e head s h =
     when (forbids_sharing head)
@@ -229,21 +260,75 @@ relayed_comes e s = by (list_any (is_asked_by e) s.clients)
     by true = refl
     by false = refl
 
-pub relay_head-comes : (e : Exchange) (head : Response) (rule : BodyRule) (s : State) → Holds (Ready e) s → Holds Coming (relay_head e head rule s)
+pub relay_head-comes : (e : Exchange) (head : Response) (rule : BodyRule) (s : State) → Holds (Ready e) s → Holds (Done e) (relay_head e head rule s)
 unfolding relay_head
 relay_head-comes e head rule s h = told-comes e (Passes (passed_by e head rule)) (relayed e s) s (relayed_comes e s) refl h
 
-other_head-comes : (e : Exchange) (head : Response) (rule : BodyRule) (s : State) → Holds (Ready e) s → Holds Coming (other_head e head rule s)
+other_head-comes : (e : Exchange) (head : Response) (rule : BodyRule) (s : State) → Holds (Ready e) s → Holds (Done e) (other_head e head rule s)
 unfolding other_head
 other_head-comes e head rule s h =
     when (is_widened e head)
     (told-comes e TooWide Dropping _ refl refl (cleared_by-ready head e s h))
     (relay_head-comes e head rule _ (cleared_by-ready head e s h))
 
-pub own_head-comes : (e : Exchange) (head : Response) (rule : BodyRule) (s : State) → Holds (Ready e) s → Holds Coming (own_head e head rule s)
+pub own_head-comes : (e : Exchange) (head : Response) (rule : BodyRule) (s : State) → Holds (Ready e) s → Holds (Done e) (own_head e head rule s)
 unfolding own_head
 own_head-comes e head rule s h = by (version_in e head)
   where
-    by : (o : Option Version) → Holds Coming (elim o as (λ c. State) [ Some v ↦ settle e head v s | None ↦ elim (head.status == 304) as (λ c. State) [ true ↦ not_modified e head s | false ↦ other_head e head rule s ] ])
+    by : (o : Option Version) → Holds (Done e) (elim o as (λ c. State) [ Some v ↦ settle e head v s | None ↦ elim (head.status == 304) as (λ c. State) [ true ↦ not_modified e head s | false ↦ other_head e head rule s ] ])
     by (Some v) = settle-comes e head v s h
     by None = when (head.status == 304) (not_modified-comes e head s h) (other_head-comes e head rule s h)
+
+-- ---- a response that is passed
+
+clear_named-ready : (e : Exchange) (key : Key) (text : Bytes) (s : State) → Holds (Ready e) s → Holds (Ready e) (clear_named key text s)
+unfolding clear_named
+clear_named-ready e key text s h = each_of (key_named key text) h (λ named. when (is_same_host named key) (clear-keeps (ready_rows e) (text_of named) s h) h)
+
+clear_each-ready : (e : Exchange) (key : Key) (texts : List Bytes) (s : State) → Holds (Ready e) s → Holds (Ready e) (clear_each key texts s)
+unfolding clear_each
+clear_each-ready e key [] s h = h
+clear_each-ready e key (text ∷ texts) s h = clear_each-ready e key texts _ (clear_named-ready e key text s h)
+
+invalidated-ready : (e : Exchange) (head : Response) (s : State) → Holds (Ready e) s → Holds (Ready e) (invalidated e head s)
+unfolding invalidated
+invalidated-ready e head s h = when (invalidates e head) (clear_each-ready e e.key (places_named head) _ (clear-keeps (ready_rows e) (key_of e) s h)) h
+
+disproved-ready : (e : Exchange) (head : Response) (s : State) → Holds (Ready e) s → Holds (Ready e) (disproved e head s)
+unfolding disproved
+disproved-ready e head s h = when (reads e && is_some_with (disproves head) (known_version s (key_of e))) (clear-keeps (ready_rows e) (key_of e) s h) h
+
+through_head-comes : (e : Exchange) (head : Response) (rule : BodyRule) (s : State) → Holds (Ready e) s → Holds (Done e) (through_head e head rule s)
+unfolding through_head
+through_head-comes e head rule s h = relay_head-comes e head rule _ (disproved-ready e head _ (invalidated-ready e head s h))
+
+-- ---- and to one that fills a hole
+
+other_part-comes : (e : Exchange) (head : Response) (rule : BodyRule) (s : State) → Holds (Ready e) s → Holds (Done e) (other_part e head rule s)
+unfolding other_part
+other_part-comes e head rule s h =
+    when (is_private_part head)
+    (not_shared-comes e s h)
+    (when (clears_row head) (relay_head-comes e head rule _ (cleared_by-ready head e s h)) (useless-comes e s h))
+
+part_head-comes : (e : Exchange) (head : Response) (rule : BodyRule) (s : State) → Holds (Ready e) s → Holds (Done e) (part_head e head rule s)
+unfolding part_head
+part_head-comes e head rule s h = by (version_in e head)
+  where
+    by : (o : Option Version) → Holds (Done e) (elim o as (λ c. State) [ Some v ↦ settle e head v s | None ↦ elim (head.status == 304) as (λ c. State) [ true ↦ not_modified e head s | false ↦ other_part e head rule s ] ])
+    by (Some v) = settle-comes e head v s h
+    by None = when (head.status == 304) (not_modified-comes e head s h) (other_part-comes e head rule s h)
+
+filling_head-comes : (e : Exchange) (head : Response) (rule : BodyRule) (s : State) → Holds (Ready e) s → Holds (Done e) (filling_head e head rule s)
+unfolding filling_head count_elsewhere
+filling_head-comes e head rule s h =
+    when (is_some_with is_bound (exchange (part_head e head rule s) e.number) && list_any (λ c. is_for e c && lacks_next (part_head e head rule s) c) (part_head e head rule s).clients)
+    (lose_attempt-done e _ (part_head-comes e head rule s h)) (part_head-comes e head rule s h)
+
+pub by_aim-comes : (e : Exchange) (head : Response) (rule : BodyRule) (s : State) → Holds (Ready e) s → Holds Coming (by_aim e head rule s)
+unfolding by_aim
+by_aim-comes e head rule s h =
+    by_aim_of e.aim
+    (holds (facts_of (through_head-comes e head rule s h)).0)
+    (holds (facts_of (own_head-comes e head rule s h)).0)
+    (λ v from to. holds (facts_of (filling_head-comes e head rule s h)).0)
