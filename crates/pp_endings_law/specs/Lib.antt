@@ -1,0 +1,4 @@
+pub mod Gone
+pub mod Idle
+pub mod Replies
+pub mod Waits
