@@ -1,0 +1,9 @@
+pub mod Fits
+pub mod Links
+pub mod Entries
+pub mod Walks
+pub mod Ways
+pub mod Puts
+pub mod Dials
+pub mod Loops
+pub mod Shuts

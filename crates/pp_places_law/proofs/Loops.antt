@@ -1,0 +1,178 @@
+-- Each exchange without a place gets one, one behind the other, where the law gives it one.
+use Rattle.std.proofs.Common.{◌≡◌, ◌⊎◌, inl, inr, refl, sym, subst, ap, ◌∙◌, ℕ, zero, suc, Bool, not, find, List, [], ◌++◌, Option, Some, None}
+use Rattle.std.proofs.lemmas.List.Folds.{list_all-append}
+use Rattle.std.specs.List.{list_all}
+use Rattle.std.specs.Prelude.{option_map}
+use Rattle.pp_flow.specs.Changes.{is_after}
+use Rattle.pp_flow.specs.declared.entry.Entry.{Entry}
+use Rattle.pp_flow_law.specs.Tables.{ShowsFlow, none_leaves}
+use Rattle.pp_law.specs.Connections.{AllPlaced, Placement, place_each, place_for, placing, put_on}
+use Rattle.pp_law.specs.Phases.{is_placed}
+use Rattle.pp_law.specs.State.{State, Exchange}
+use Rattle.pp_laws.proofs.Tests.{first_holds, second_holds}
+use Rattle.pp_obeys.proofs.Moving.{leads_then}
+use Rattle.pp_obeys.specs.Failures.{fails}
+use Rattle.pp_obeys.specs.Moves.{AreCalm, Leads}
+use Rattle.pp_peers.specs.declared.placing.Placed.{Placed}
+use Rattle.pp_peers.specs.declared.placing.Placed.TheVariants.{On, Dial, CloseThenDial, Wait}
+use Rattle.pp_places.specs.Around.{Around, moment_of, with_sides}
+use Rattle.pp_places.specs.Placing.{ArePlaced, IsPlaced, IsPlacedAs, given_way, goes_on_behind, place_for as place_in_turn, put_on as put_in_turn}
+use Rattle.pp_state.specs.declared.state.State.{State as Turn}
+use Rattle.pp_world.specs.Log.{Log}
+use Rattle.pp_places_law.proofs.Dials.{dials}
+use Rattle.pp_places_law.proofs.Puts.{places, puts}
+use Rattle.pp_places_law.proofs.Walks.{IsNext, all_there, behind, behind_put, by_place, from_first, stops_at, walks}
+use Rattle.pp_places_law.proofs.Ways.{ways}
+use Rattle.pp_places_law.specs.Around.{MayPlace, ShowsAround}
+use Rattle.pp_places_law.specs.Places.{AllPlacesAreTheLaws, HavePlaces, IsLed, IsUnplaced, Reaches}
+
+-- ---- the happenings in it are calm
+
+abbrev is_calm : Log → Bool
+is_calm hs = list_all (λ h. not (fails h)) hs
+
+calm_first : (one two log : Log) → log ≡ one ++ two → AreCalm log → AreCalm one
+calm_first one two log is calm = first_holds (is_calm one) (is_calm two) (sym (list_all-append (λ h. not (fails h)) one two) ∙ ap is_calm (sym is) ∙ calm)
+
+calm_rest : (one two log : Log) → log ≡ one ++ two → AreCalm log → AreCalm two
+calm_rest one two log is calm = second_holds (is_calm one) (is_calm two) (sym (list_all-append (λ h. not (fails h)) one two) ∙ ap is_calm (sym is) ∙ calm)
+
+-- ---- where the turn stands
+
+-- the law goes on with those behind that one
+record Stands (number : ℕ → ℕ) (p : Turn) (after : Option ℕ) (x : Around) (s t : State) : Type 0 where
+  shows : ShowsAround number p x t
+  may : MayPlace s
+  late : MayPlace t
+  walks : placing s ≡ place_each (behind after t.exchanges) t
+
+from_start : (number : ℕ → ℕ) (p : Turn) (x : Around) (s : State) → ShowsAround number p x s → MayPlace s → Stands number p None x s s
+from_start number p x s shows may = record {
+  shows = shows;
+  may = may;
+  late = may;
+  walks = ap (λ (ns : List ℕ). place_each ns s) (sym (from_first s.next_exchange s.exchanges shows.turn.steps.shows.exchanges.given));
+}
+
+next_of : (number : ℕ → ℕ) (p : Turn) (after : Option ℕ) (x : Around) (t : State) → ShowsAround number p x t → IsNext number t after 0 t.exchanges (find (is_after after) x.sides.parts.flow.waiting)
+next_of number p after x t shows =
+    let flow : ShowsFlow number none_leaves x.sides.parts.flow t = shows.turn.steps.shows.exchanges in
+    walks number t after 0 t.next_exchange t.exchanges x.sides.parts.flow.waiting flow.given (all_there t t.next_exchange flow.given) flow.waiting
+
+-- ---- what comes of one
+
+-- these happenings lead on, and the turn stands there
+record GoesOn (number : ℕ → ℕ) (p : Turn) (after : Option ℕ) (log : Log) (y : Around) (s : State) : Type 0 where
+  behind_it : State
+  now : State
+  leads : Leads log s behind_it
+  stands : Stands number p after y behind_it now
+
+led : (number : ℕ → ℕ) (p : Turn) (log : Log) (y : Around) (s : State) → IsLed number p log y s → GoesOn number p None log y s
+led number p log y s is = record { behind_it = is.state; now = is.state; leads = is.leads; stands = from_start number p y is.state is.shows is.may }
+
+still : (s : State) (log : Log) → log ≡ [] → Leads log s s
+still s log is = subst (λ (hs : Log). Leads hs s s) (sym is) refl
+
+one : (number : ℕ → ℕ) (p : Turn) (x y : Around) (s t : State) (e : Exchange) (ns : List ℕ) (log : Log) (w : Placed) → ShowsAround number p x t → MayPlace s → MayPlace t → IsUnplaced t e
+    → ns ≡ behind (Some e.number) t.exchanges → placing s ≡ by_place t ns e.number e w → place_for t e ≡ w → AreCalm log → IsPlacedAs w (moment_of p) e.number x log y → GoesOn number p (goes_on_behind w e.number) log y s
+one number p x y s t e ns log (On k) shows may late un these is place calm step =
+    let put : ShowsAround number p (with_sides (put_in_turn e.number k) x) (put_on e.number k t) × MayPlace (put_on e.number k t) = puts number p x t shows late e k un place in
+    record {
+      behind_it = s;
+      now = put_on e.number k t;
+      leads = still s log step.0;
+      stands = record {
+        shows = subst (λ (z : Around). ShowsAround number p z (put_on e.number k t)) (sym step.1) put.0;
+        may = may;
+        late = put.1;
+        walks = is ∙ ap (λ (ms : List ℕ). place_each ms (put_on e.number k t)) (these ∙ sym (behind_put (Some e.number) e.number k t));
+      };
+    }
+one number p x y s t e ns log Wait shows may late un these is place calm step = record {
+  behind_it = s;
+  now = t;
+  leads = still s log step.0;
+  stands = record {
+    shows = subst (λ (z : Around). ShowsAround number p z t) (sym step.1) shows;
+    may = may;
+    late = late;
+    walks = is ∙ ap (λ (ms : List ℕ). place_each ms t) these;
+  };
+}
+one number p x y s t e ns log Dial shows may late un these is place calm step =
+    led number p log y s
+    (dials number p x s (subst (λ (q : Placement). ShowsAround number p x q.state) (sym is) shows) may e log y (subst (λ (q : Placement). IsUnplaced q.state e) (sym is) un) (ap (λ (q : Placement). q.pause) is) calm step)
+one number p x y s t e ns log (CloseThenDial k) shows may late un these is place calm step =
+    led number p log y s
+    (subst (λ (z : Around). IsLed number p log z s) (sym step.1)
+    (subst (λ (hs : Log). IsLed number p hs (given_way k x) s) (sym step.0)
+    (ways number p x s (subst (λ (q : Placement). ShowsAround number p x q.state) (sym is) shows) may k e (ap (λ (q : Placement). q.pause) is))))
+
+-- ---- one behind the other
+
+-- so far, and how it ends
+record Ends (number : ℕ → ℕ) (p : Turn) (more : ℕ) (after : Option ℕ) (x : Around) (log : Log) (y : Around) (s : State) : Type 0 where
+  state : State
+  leads : Leads log s state
+  ends : HavePlaces number p y state ⊎ Reaches more (moment_of p) after x log y
+
+nothing : (number : ℕ → ℕ) (p : Turn) (after : Option ℕ) (x : Around) (log : Log) (y : Around) (s t : State) → Stands number p after x s t → placing s ≡ record { state = t; pause = AllPlaced } → y ≡ x → HavePlaces number p y s
+nothing number p after x log y s t stands is same = record {
+  placed = ap (λ (q : Placement). is_placed q.pause) is;
+  shows = subst (λ (q : Placement). ShowsAround number p y q.state) (sym is) (subst (λ (z : Around). ShowsAround number p z t) (sym same) stands.shows);
+  may = stands.may;
+}
+
+abbrev Steps : Turn → ℕ → Option ℕ → Around → Log → Around → Option ℕ → Type 0
+Steps p more after x log y o = elim o [
+  | None ↦ (log ≡ []) × (y ≡ x)
+  | Some n ↦ (next : Around) × (first : Log) × (rest : Log) × (log ≡ first ++ rest) × IsPlaced (moment_of p) n x first next × ArePlaced more (moment_of p) (goes_on_behind (place_in_turn (moment_of p).limits n x.sides) n) next rest y
+]
+
+loop : (number : ℕ → ℕ) (p : Turn) (more : ℕ) (after : Option ℕ) (x y : Around) (s t : State) (log : Log) → Stands number p after x s t → AreCalm log → ArePlaced more (moment_of p) after x log y → Ends number p more after x log y s
+unfolding ArePlaced Reaches
+loop number p zero after x y s t log stands calm run = record { state = s; leads = still s log run.0; ends = inr run }
+loop number p (suc more) after x y s t log stands calm run = by (find (is_after after) x.sides.parts.flow.waiting) refl (next_of number p after x t stands.shows) (λ after z u v hs now ok go. loop number p more after z y u v hs now ok go)
+  where
+    by : (o : Option Entry) → find (is_after after) x.sides.parts.flow.waiting ≡ o → IsNext number t after 0 t.exchanges o → ((behind_it : Option ℕ) (z : Around) (u v : State) (hs : Log) → Stands number p behind_it z u v → AreCalm hs → ArePlaced more (moment_of p) behind_it z hs y → Ends number p more behind_it z hs y u) → Ends number p (suc more) after x log y s
+    by None is next again =
+        let end : (log ≡ []) × (y ≡ x) = subst (λ (o : Option Entry). Steps p more after x log y (option_map (λ e. e.exchange.number) o)) is run in
+        record { state = s; leads = still s log end.0; ends = inl (nothing number p after x log y s t stands (stands.walks ∙ next) end.1) }
+    by (Some w) is next again =
+        let place : place_in_turn p.limits next.known.number x.sides ≡ place_for t next.known = places number p x t stands.shows stands.late next.known next.un in
+        let at : GoesOn number p (goes_on_behind (place_for t next.known) next.known.number) step.1 step.0 s =
+        one number p x step.0 s t next.known (behind (Some next.known.number) t.exchanges) step.1 (place_for t next.known) stands.shows stands.may stands.late next.un refl
+        (stands.walks ∙ next.walks ∙ stops_at t next.known (behind (Some next.known.number) t.exchanges) (place_for t next.known) next.un refl) refl (calm_first step.1 step.2 log step.3 calm)
+        (subst (λ (v : Placed). IsPlacedAs v (moment_of p) next.known.number x step.1 step.0) place step.4) in
+        let more_run : ArePlaced more (moment_of p) (goes_on_behind (place_for t next.known) next.known.number) step.0 step.2 y =
+        subst (λ (v : Placed). ArePlaced more (moment_of p) (goes_on_behind v next.known.number) step.0 step.2 y) place step.5 in
+        let rest : Ends number p more (goes_on_behind (place_for t next.known) next.known.number) step.0 step.2 y at.behind_it =
+        again (goes_on_behind (place_for t next.known) next.known.number) step.0 at.behind_it at.now step.2 at.stands (calm_rest step.1 step.2 log step.3 calm) more_run in
+        record {
+          state = rest.state;
+          leads = subst (λ (hs : Log). Leads hs s rest.state) (sym step.3) (leads_then (λ v. v ≡ rest.state) step.1 step.2 s at.behind_it at.leads rest.leads);
+          ends = ended rest.ends;
+        }
+      where
+        step : Steps p more after x log y (Some next.known.number)
+        step = subst (λ (m : ℕ). Steps p more after x log y (Some m)) next.shows.number (subst (λ (o : Option Entry). Steps p more after x log y (option_map (λ e. e.exchange.number) o)) is run)
+
+        ended : {u : State} → HavePlaces number p y u ⊎ Reaches more (moment_of p) (goes_on_behind (place_for t next.known) next.known.number) step.0 step.2 y → HavePlaces number p y u ⊎ Reaches (suc more) (moment_of p) after x log y
+        ended (inl have) = inl have
+        ended (inr reached) =
+            inr (
+              next.known.number,
+              step.0,
+              step.1,
+              step.2,
+              ap (λ (o : Option Entry). option_map (λ e. e.exchange.number) o) is ∙ ap (λ (m : ℕ). Some m) next.shows.number,
+              step.3,
+              step.4,
+              subst (λ (v : Placed). Reaches more (moment_of p) (goes_on_behind v next.known.number) step.0 step.2 y) (sym (places number p x t stands.shows stands.late next.known next.un)) reached,
+            )
+
+pub all : AllPlacesAreTheLaws
+all number p x s shows may more log y calm run =
+    let end : Ends number p more None x log y s = loop number p more None x y s s log (from_start number p x s shows may) calm run in
+    record { state = end.state; leads = end.leads; ends = end.ends }

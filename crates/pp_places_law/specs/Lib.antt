@@ -1,0 +1,3 @@
+pub mod Around
+pub mod Closings
+pub mod Places
