@@ -35,6 +35,7 @@ use Rattle.pp_peers.specs.declared.placing.Placed.TheVariants.{Dial}
 use Rattle.pp_places.specs.Around.{Around, moment_of, with_sides}
 use Rattle.pp_places.specs.Placing.{IsDialled, IsDialledFor, IsDialledTo, dial_log, dials_to, met_at, new_one, put_on as put_in_turn}
 use Rattle.pp_state.specs.declared.state.State.{State as Turn}
+use Rattle.pp_seats_law.specs.Exchanges.{ShowsExchange}
 use Rattle.pp_states_law.proofs.Dialled.{dials as state_dials}
 use Rattle.pp_steps_law.specs.Steps.{whole}
 use Rattle.pp_target.specs.Key.{Key}
@@ -92,6 +93,8 @@ is_called number p x t host port answer shows few =
 
 pub record IsCalledFor (number : ℕ → ℕ) (p : Turn) (x : Around) (e : Exchange) (log : Log) (y : Around) : Type 0 where
   pub entry : Entry
+  pub known : entry_of e.number x.sides.parts.flow ≡ Some entry
+  pub shows : ShowsExchange number entry e
   pub dials : IsDialled (moment_of p) e.number entry e.key.host x log y
   pub port : entry.errand.place.port ≡ e.key.port
   pub few : length x.sides.peers < 64
@@ -104,6 +107,8 @@ calls number p x t e log y shows may un is dial =
     let few : length x.sides.peers < 64 = few_peers number p x t e shows may is in
     record {
       entry = one.entry;
+      known = one.known;
+      shows = one.shows;
       dials =
           subst (λ (o : Option Bytes). IsDialledTo (moment_of p) e.number one.entry o x log y) (dials_there e.key.host x.sides.peers (host_short number one.entry e one.shows ask) few)
           (subst (λ (o : Option Bytes). IsDialledTo (moment_of p) e.number one.entry (dials_to o x.sides.peers) x log y) (host_is number one.entry e one.shows ask)
@@ -248,31 +253,43 @@ as_met number p x y t e log n shows may c is above =
         ∙ ap (λ (ls : List Link). record { sides = b; links = ls; top = i }) two
         ∙ ap (λ (m : ℕ). record { sides = b; links = d; top = m }) three
 
+-- what the log gets of it
+pub log_called : (number : ℕ → ℕ) (p : Turn) (x y : Around) (t : State) (e : Exchange) (log : Log) → ShowsAround number p x t → (c : IsCalledFor number p x e log y) → log ≡ dial_happening e.key.host c.entry.errand.place.port c.dials.answer ∷ []
+log_called number p x y t e log shows c = c.dials.log_is ∙ is_called number p x t e.key.host c.entry.errand.place.port c.dials.answer shows c.few
+
+-- where the world gave one
+pub meets : (number : ℕ → ℕ) (p : Turn) (x y : Around) (s : State) (e : Exchange) (log : Log) (n : ℕ) → ShowsAround number p x (placing s).state → MayPlace s → IsUnplaced (placing s).state e → (placing s).pause ≡ WaitsDial e
+    → (c : IsCalledFor number p x e log y) → c.dials.answer ≡ Ok n → IsLed number p log y s
+meets number p x y s e log n shows may un waits c is =
+    let late : MayPlace (placing s).state = placing_may s may in
+    let above : IsNewNumber x.top n = subst (λ (a : Result ℕ WireFault). IfOk a (IsNewNumber x.top)) is c.dials.number_is in
+    let given : (placing s).state.top + 1 ≤ n = given_new (placing s).state.top x.top n shows.top above.above in
+    let log_is : log ≡ Dialled n e.key.host e.key.port ∷ [] =
+    log_called number p x y (placing s).state e log shows c ∙ ap₂ (λ (a : Result ℕ WireFault) (port : ℕ). dial_happening e.key.host port a ∷ []) is c.port in
+    record {
+      state = put_on e.number n (with_new n e.key.host e.key.port (placing s).state);
+      leads =
+          subst (λ (hs : Log). Leads hs s (put_on e.number n (with_new n e.key.host e.key.port (placing s).state))) (sym log_is)
+          (record { awake = refl; may = λ failed. permitted s e n may waits (less_given (placing s).state.top n given); holds = goes s e n may waits });
+      shows =
+          subst (λ (z : Around). ShowsAround number p z (put_on e.number n (with_new n e.key.host e.key.port (placing s).state))) (sym (as_met number p x y (placing s).state e log n shows late c is above.above))
+          (put_new number p x (placing s).state e n shows late un above.above given);
+      may = put_may e.number n (with_new n e.key.host e.key.port (placing s).state) (new_may n e.key.host e.key.port (placing s).state late given);
+    }
+
+pub called_for : (number : ℕ → ℕ) (p : Turn) (x y : Around) (s : State) (e : Exchange) (log : Log) → ShowsAround number p x (placing s).state → MayPlace s → IsUnplaced (placing s).state e → (placing s).pause ≡ WaitsDial e
+    → IsDialledFor (moment_of p) e.number (entry_of e.number x.sides.parts.flow) x log y → IsCalledFor number p x e log y
+called_for number p x y s e log shows may un waits dial = calls number p x (placing s).state e log y shows (placing_may s may) un ((placing-paused s).dial e waits) dial
+
 pub dials : DialsAreTheLaws
-dials number p x s shows may e log y un waits calm dial =
-    let c : IsCalledFor number p x e log y = calls number p x (placing s).state e log y shows late un ((placing-paused s).dial e waits) dial in
-    by c c.dials.answer refl
+dials number p x s shows may e log y un waits calm dial = by (called_for number p x y s e log shows may un waits dial)
   where
-    late : MayPlace (placing s).state
-    late = placing_may s may
+    at : (c : IsCalledFor number p x e log y) (answer : Result ℕ WireFault) → c.dials.answer ≡ answer → IsLed number p log y s
+    at c (Err fault) is =
+        absurd
+        (let bad : false ≡ true =
+        sym (ap (λ (hs : Log). list_all (λ h. not (fails h)) hs) (log_called number p x y (placing s).state e log shows c ∙ ap (λ (a : Result ℕ WireFault). dial_happening e.key.host c.entry.errand.place.port a ∷ []) is)) ∙ calm in cc bad)
+    at c (Ok n) is = meets number p x y s e log n shows may un waits c is
 
-    called : (c : IsCalledFor number p x e log y) → log ≡ dial_happening e.key.host c.entry.errand.place.port c.dials.answer ∷ []
-    called c = c.dials.log_is ∙ is_called number p x (placing s).state e.key.host c.entry.errand.place.port c.dials.answer shows c.few
-
-    by : (c : IsCalledFor number p x e log y) (answer : Result ℕ WireFault) → c.dials.answer ≡ answer → IsLed number p log y s
-    by c (Err fault) is =
-        absurd (let bad : false ≡ true = sym (ap (λ (hs : Log). list_all (λ h. not (fails h)) hs) (called c ∙ ap (λ (a : Result ℕ WireFault). dial_happening e.key.host c.entry.errand.place.port a ∷ []) is)) ∙ calm in cc bad)
-    by c (Ok n) is =
-        let above : IsNewNumber x.top n = subst (λ (a : Result ℕ WireFault). IfOk a (IsNewNumber x.top)) is c.dials.number_is in
-        let given : (placing s).state.top + 1 ≤ n = given_new (placing s).state.top x.top n shows.top above.above in
-        let log_is : log ≡ Dialled n e.key.host e.key.port ∷ [] = called c ∙ ap₂ (λ (a : Result ℕ WireFault) (port : ℕ). dial_happening e.key.host port a ∷ []) is c.port in
-        record {
-          state = put_on e.number n (with_new n e.key.host e.key.port (placing s).state);
-          leads =
-              subst (λ (hs : Log). Leads hs s (put_on e.number n (with_new n e.key.host e.key.port (placing s).state))) (sym log_is)
-              (record { awake = refl; may = λ failed. permitted s e n may waits (less_given (placing s).state.top n given); holds = goes s e n may waits });
-          shows =
-              subst (λ (z : Around). ShowsAround number p z (put_on e.number n (with_new n e.key.host e.key.port (placing s).state))) (sym (as_met number p x y (placing s).state e log n shows late c is above.above))
-              (put_new number p x (placing s).state e n shows late un above.above given);
-          may = put_may e.number n (with_new n e.key.host e.key.port (placing s).state) (new_may n e.key.host e.key.port (placing s).state late given);
-        }
+    by : IsCalledFor number p x e log y → IsLed number p log y s
+    by c = at c c.dials.answer refl

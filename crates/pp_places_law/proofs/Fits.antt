@@ -15,7 +15,7 @@ use Rattle.pp_places_law.specs.Around.{MayPlace}
 
 -- ---- lists
 
-any_mapped : {A : Type 0} (p : A → Bool) (f : A → A) (xs : List A) → ((x : A) → p (f x) ≡ p x) → list_any p (map f xs) ≡ list_any p xs
+pub any_mapped : {A : Type 0} (p : A → Bool) (f : A → A) (xs : List A) → ((x : A) → p (f x) ≡ p x) → list_any p (map f xs) ≡ list_any p xs
 any_mapped p f [] same = refl
 any_mapped p f (x ∷ xs) same = ap₂ (λ (a b : Bool). a || b) (same x) (any_mapped p f xs same)
 
@@ -74,7 +74,7 @@ put_same : (n k : ℕ) (s : State) → ((put_on n k s).is_stopped ≡ s.is_stopp
 unfolding put_on on_conn on_exchange
 put_same n k s = (refl, refl, refl)
 
-given_at : (s : State) (m : ℕ) (o : Option Conn) (f : Conn → Conn) (j : Conn) → MayPlace s → conn s m ≡ o → option_map f o ≡ Some j → m ≤ s.top
+pub given_at : (s : State) (m : ℕ) (o : Option Conn) (f : Conn → Conn) (j : Conn) → MayPlace s → conn s m ≡ o → option_map f o ≡ Some j → m ≤ s.top
 given_at s m None f j may is found = absurd (none_some j found)
 given_at s m (Some i) f j may is found = may.given m i is
 

@@ -7,3 +7,7 @@ pub mod Puts
 pub mod Dials
 pub mod Loops
 pub mod Shuts
+pub mod Askable
+pub mod Still
+pub mod Refused
+pub mod Answered

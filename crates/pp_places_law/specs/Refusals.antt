@@ -1,0 +1,58 @@
+-- A dial is refused amid the places: its exchange is asked elsewhere, or is over, and followers ask for what is missing at once (RFC 2616,
+-- section 8.1.4; RFC 7233, section 3.2).
+use Rattle.std.specs.Prelude.{◌≡◌, ◌+◌, ℕ, false, Some, None}
+use Rattle.pp_cache.specs.Bounds.{IsBounded}
+use Rattle.pp_decides_law.specs.Fills.{HasRoomForAll, MayAllFill}
+use Rattle.pp_flow.specs.Changes.{entry_of}
+use Rattle.pp_flow.specs.declared.entry.Entry.{Entry}
+use Rattle.pp_law.specs.Connections.{WaitsDial, end_exchange, lose_attempt, may_ask_again, placing}
+use Rattle.pp_law.specs.State.{State, Exchange}
+use Rattle.pp_obeys.specs.Moves.{Leads}
+use Rattle.pp_places.specs.Around.{Around, moment_of}
+use Rattle.pp_places.specs.Placing.{ArePlaced, IsDialledFor}
+use Rattle.pp_state.specs.Ends.{Parts, ended, lost_attempt}
+use Rattle.pp_state.specs.declared.state.State.{State as Turn}
+use Rattle.pp_steps_law.specs.Charges.{GoesOn, IsFor}
+use Rattle.pp_turns_law.specs.Firsts.{AreAwake}
+use Rattle.pp_world.specs.Log.{Log}
+use Rattle.pp_places_law.specs.Around.{MayPlace, ShowsAround}
+use Rattle.pp_places_law.specs.Places.{AreLed, IsLed, IsUnplaced, OfPlaces, OfPlacing}
+
+-- ---- what is so amid it
+
+-- the turn with these clients, exchanges and rows
+abbrev pub turn_with : Parts → Turn → Turn
+turn_with q p = record p { seats = record p.seats { items = q.seats }; flow = q.flow; cache = q.cache; refused = q.refused }
+
+-- the outside failed once more, and an attempt is lost
+abbrev pub lost_in : Exchange → State → State
+lost_in e s = lose_attempt e (record s { failures = s.failures + 1 })
+
+-- where it is over, what each follows is there, and until all is to be closed there is room for what each asks
+pub record MayFillThen (q : Turn) (s : State) : Type 0 where
+  pub awake : AreAwake q
+  pub fill : MayAllFill q s
+  pub room : s.is_stopped ≡ false → HasRoomForAll q s
+
+-- its client goes on, and memory was refused for no row that it waits for; behind the attempt that is lost the cache is bounded, as each is
+pub record MayBeRefused (p : Turn) (x : Around) (s : State) (e : Exchange) : Type 0 where
+  pub goes : IsFor s e GoesOn
+  pub bounded : (y : Entry) → entry_of e.number x.sides.parts.flow ≡ Some y → IsBounded (lost_attempt y.exchange x.sides.parts).cache
+  pub then : (y : Entry) → entry_of e.number x.sides.parts.flow ≡ Some y → may_ask_again (lost_in e s) e.number ≡ false
+      → MayFillThen (turn_with (ended e.number (lost_attempt y.exchange x.sides.parts)) p) (end_exchange e.number (lost_in e s))
+
+-- ---- one dial
+
+-- whatever the world answers
+abbrev pub AnswersAreTheLaws : Type 0
+AnswersAreTheLaws = OfPlacing (λ number p x s. (e : Exchange) (log : Log) (y : Around) → IsUnplaced (placing s).state e → (placing s).pause ≡ WaitsDial e → MayBeRefused p x (placing s).state e
+    → IsDialledFor (moment_of p) e.number (entry_of e.number x.sides.parts.flow) x log y → IsLed number p log y s)
+
+-- ---- all of them
+
+-- wherever the turn comes to, each dial may be refused
+abbrev pub EachMayBeRefused : (ℕ → ℕ) → Turn → State → Type 0
+EachMayBeRefused number p s = (hs : Log) (t : State) (x : Around) (e : Exchange) → Leads hs s t → MayPlace t → ShowsAround number p x (placing t).state → (placing t).pause ≡ WaitsDial e → MayBeRefused p x (placing t).state e
+
+abbrev pub AllAnswersAreTheLaws : Type 0
+AllAnswersAreTheLaws = OfPlaces (λ number p x s. (more : ℕ) (log : Log) (y : Around) → EachMayBeRefused number p s → ArePlaced more (moment_of p) None x log y → AreLed number p more x log y s)
