@@ -16,7 +16,7 @@ use Rattle.pp_obeys.specs.Moves.{AreCalm, Leads}
 use Rattle.pp_peers.specs.declared.placing.Placed.{Placed}
 use Rattle.pp_peers.specs.declared.placing.Placed.TheVariants.{On, Dial, CloseThenDial, Wait}
 use Rattle.pp_places.specs.Around.{Around, moment_of, with_sides}
-use Rattle.pp_places.specs.Placing.{ArePlaced, IsDialledFor, IsPlaced, IsPlacedAs, given_way, goes_on_behind, place_for as place_in_turn, put_on as put_in_turn}
+use Rattle.pp_places.specs.Placing.{ArePlaced, IsDialledFor, IsPlaced, IsPlacedAs, given_way, goes_on_behind, next_waiting, place_for as place_in_turn, put_on as put_in_turn}
 use Rattle.pp_state.specs.declared.state.State.{State as Turn}
 use Rattle.pp_world.specs.Log.{Log}
 use Rattle.pp_places_law.proofs.Dials.{dials}
@@ -39,11 +39,12 @@ calm_rest one two log is calm = second_holds (is_calm one) (is_calm two) (sym (l
 
 -- ---- what is so of a log that leads on from a state
 
--- it is so of each part of it; and a dial leads on
-pub record LeadsOn (number : ℕ → ℕ) (p : Turn) (May : Log → State → Type 0) : Type 0 where
-  pub first : (one two log : Log) (s : State) → log ≡ one ++ two → May log s → May one s
-  pub rest : (one two log : Log) (s t : State) → log ≡ one ++ two → Leads one s t → May log s → May two t
-  pub dials : (x : Around) (s : State) (e : Exchange) (log : Log) (y : Around) → ShowsAround number p x (placing s).state → MayPlace s → IsUnplaced (placing s).state e → (placing s).pause ≡ WaitsDial e → May log s
+-- it is so of the front of it, and behind one that got its place or found none; and a dial leads on
+pub record LeadsOn (number : ℕ → ℕ) (p : Turn) (May : Option ℕ → Around → Log → State → Type 0) : Type 0 where
+  pub front : (after : Option ℕ) (x : Around) (one two log : Log) (s : State) → log ≡ one ++ two → May after x log s → May after x one s
+  pub behind_it : (after : Option ℕ) (x next : Around) (n : ℕ) (one two log : Log) (s t : State) → next_waiting after x.sides ≡ Some n → IsPlaced (moment_of p) n x one next → log ≡ one ++ two → Leads one s t → May after x log s
+      → May (goes_on_behind (place_in_turn p.limits n x.sides) n) next two t
+  pub dials : (after : Option ℕ) (x : Around) (s : State) (e : Exchange) (log : Log) (y : Around) → ShowsAround number p x (placing s).state → MayPlace s → IsUnplaced (placing s).state e → (placing s).pause ≡ WaitsDial e → May after x log s
       → IsDialledFor (moment_of p) e.number (entry_of e.number x.sides.parts.flow) x log y → IsLed number p log y s
 
 -- ---- where the turn stands
@@ -83,9 +84,9 @@ led number p log y s is = record { behind_it = is.state; now = is.state; leads =
 still : (s : State) (log : Log) → log ≡ [] → Leads log s s
 still s log is = subst (λ (hs : Log). Leads hs s s) (sym is) refl
 
-one : (number : ℕ → ℕ) (p : Turn) (May : Log → State → Type 0) → LeadsOn number p May → (x y : Around) (s t : State) (e : Exchange) (ns : List ℕ) (log : Log) (w : Placed) → ShowsAround number p x t → MayPlace s → MayPlace t → IsUnplaced t e
-    → ns ≡ behind (Some e.number) t.exchanges → placing s ≡ by_place t ns e.number e w → place_for t e ≡ w → May log s → IsPlacedAs w (moment_of p) e.number x log y → GoesOn number p (goes_on_behind w e.number) log y s
-one number p May on x y s t e ns log (On k) shows may late un these is place so step =
+one : (number : ℕ → ℕ) (p : Turn) (May : Option ℕ → Around → Log → State → Type 0) → LeadsOn number p May → (after : Option ℕ) (x y : Around) (s t : State) (e : Exchange) (ns : List ℕ) (log : Log) (w : Placed) → ShowsAround number p x t → MayPlace s → MayPlace t → IsUnplaced t e
+    → ns ≡ behind (Some e.number) t.exchanges → placing s ≡ by_place t ns e.number e w → place_for t e ≡ w → May after x log s → IsPlacedAs w (moment_of p) e.number x log y → GoesOn number p (goes_on_behind w e.number) log y s
+one number p May on after x y s t e ns log (On k) shows may late un these is place so step =
     let put : ShowsAround number p (with_sides (put_in_turn e.number k) x) (put_on e.number k t) × MayPlace (put_on e.number k t) = puts number p x t shows late e k un place in
     record {
       behind_it = s;
@@ -98,7 +99,7 @@ one number p May on x y s t e ns log (On k) shows may late un these is place so 
         walks = is ∙ ap (λ (ms : List ℕ). place_each ms (put_on e.number k t)) (these ∙ sym (behind_put (Some e.number) e.number k t));
       };
     }
-one number p May on x y s t e ns log Wait shows may late un these is place so step = record {
+one number p May on after x y s t e ns log Wait shows may late un these is place so step = record {
   behind_it = s;
   now = t;
   leads = still s log step.0;
@@ -109,10 +110,10 @@ one number p May on x y s t e ns log Wait shows may late un these is place so st
     walks = is ∙ ap (λ (ms : List ℕ). place_each ms t) these;
   };
 }
-one number p May on x y s t e ns log Dial shows may late un these is place so step =
+one number p May on after x y s t e ns log Dial shows may late un these is place so step =
     led number p log y s
-    (on.dials x s e log y (subst (λ (q : Placement). ShowsAround number p x q.state) (sym is) shows) may (subst (λ (q : Placement). IsUnplaced q.state e) (sym is) un) (ap (λ (q : Placement). q.pause) is) so step)
-one number p May on x y s t e ns log (CloseThenDial k) shows may late un these is place so step =
+    (on.dials after x s e log y (subst (λ (q : Placement). ShowsAround number p x q.state) (sym is) shows) may (subst (λ (q : Placement). IsUnplaced q.state e) (sym is) un) (ap (λ (q : Placement). q.pause) is) so step)
+one number p May on after x y s t e ns log (CloseThenDial k) shows may late un these is place so step =
     led number p log y s
     (subst (λ (z : Around). IsLed number p log z s) (sym step.1)
     (subst (λ (hs : Log). IsLed number p hs (given_way k x) s) (sym step.0)
@@ -139,33 +140,37 @@ Steps p more after x log y o = elim o [
   | Some n ↦ (next : Around) × (first : Log) × (rest : Log) × (log ≡ first ++ rest) × IsPlaced (moment_of p) n x first next × ArePlaced more (moment_of p) (goes_on_behind (place_in_turn (moment_of p).limits n x.sides) n) next rest y
 ]
 
-loop : (number : ℕ → ℕ) (p : Turn) (May : Log → State → Type 0) → LeadsOn number p May → (more : ℕ) (after : Option ℕ) (x y : Around) (s t : State) (log : Log) → Stands number p after x s t → May log s → ArePlaced more (moment_of p) after x log y
+loop : (number : ℕ → ℕ) (p : Turn) (May : Option ℕ → Around → Log → State → Type 0) → LeadsOn number p May → (more : ℕ) (after : Option ℕ) (x y : Around) (s t : State) (log : Log) → Stands number p after x s t → May after x log s → ArePlaced more (moment_of p) after x log y
     → Ends number p more after x log y s
 unfolding ArePlaced Reaches
 loop number p May on zero after x y s t log stands so run = record { state = s; leads = still s log run.0; ends = inr run }
 loop number p May on (suc more) after x y s t log stands so run =
     by (find (is_after after) x.sides.parts.flow.waiting) refl (next_of number p after x t stands.shows) (λ behind_it z u v hs now ok go. loop number p May on more behind_it z y u v hs now ok go)
   where
-    by : (o : Option Entry) → find (is_after after) x.sides.parts.flow.waiting ≡ o → IsNext number t after 0 t.exchanges o → ((behind_it : Option ℕ) (z : Around) (u v : State) (hs : Log) → Stands number p behind_it z u v → May hs u → ArePlaced more (moment_of p) behind_it z hs y → Ends number p more behind_it z hs y u) → Ends number p (suc more) after x log y s
+    by : (o : Option Entry) → find (is_after after) x.sides.parts.flow.waiting ≡ o → IsNext number t after 0 t.exchanges o → ((behind_it : Option ℕ) (z : Around) (u v : State) (hs : Log) → Stands number p behind_it z u v → May behind_it z hs u → ArePlaced more (moment_of p) behind_it z hs y → Ends number p more behind_it z hs y u) → Ends number p (suc more) after x log y s
     by None is next again =
         let end : (log ≡ []) × (y ≡ x) = subst (λ (o : Option Entry). Steps p more after x log y (option_map (λ e. e.exchange.number) o)) is run in
         record { state = s; leads = still s log end.0; ends = inl (nothing number p after x log y s t stands (stands.walks ∙ next) end.1) }
     by (Some w) is next again =
         let place : place_in_turn p.limits next.known.number x.sides ≡ place_for t next.known = places number p x t stands.shows stands.late next.known next.un in
         let at : GoesOn number p (goes_on_behind (place_for t next.known) next.known.number) step.1 step.0 s =
-        one number p May on x step.0 s t next.known (behind (Some next.known.number) t.exchanges) step.1 (place_for t next.known) stands.shows stands.may stands.late next.un refl
-        (stands.walks ∙ next.walks ∙ stops_at t next.known (behind (Some next.known.number) t.exchanges) (place_for t next.known) next.un refl) refl (on.first step.1 step.2 log s step.3 so)
+        one number p May on after x step.0 s t next.known (behind (Some next.known.number) t.exchanges) step.1 (place_for t next.known) stands.shows stands.may stands.late next.un refl
+        (stands.walks ∙ next.walks ∙ stops_at t next.known (behind (Some next.known.number) t.exchanges) (place_for t next.known) next.un refl) refl (on.front after x step.1 step.2 log s step.3 so)
         (subst (λ (v : Placed). IsPlacedAs v (moment_of p) next.known.number x step.1 step.0) place step.4) in
         let more_run : ArePlaced more (moment_of p) (goes_on_behind (place_for t next.known) next.known.number) step.0 step.2 y =
         subst (λ (v : Placed). ArePlaced more (moment_of p) (goes_on_behind v next.known.number) step.0 step.2 y) place step.5 in
         let rest : Ends number p more (goes_on_behind (place_for t next.known) next.known.number) step.0 step.2 y at.behind_it =
-        again (goes_on_behind (place_for t next.known) next.known.number) step.0 at.behind_it at.now step.2 at.stands (on.rest step.1 step.2 log s at.behind_it step.3 at.leads so) more_run in
+        again (goes_on_behind (place_for t next.known) next.known.number) step.0 at.behind_it at.now step.2 at.stands
+        (subst (λ (v : Placed). May (goes_on_behind v next.known.number) step.0 step.2 at.behind_it) place (on.behind_it after x step.0 next.known.number step.1 step.2 log s at.behind_it number_next step.4 step.3 at.leads so)) more_run in
         record {
           state = rest.state;
           leads = subst (λ (hs : Log). Leads hs s rest.state) (sym step.3) (leads_then (λ v. v ≡ rest.state) step.1 step.2 s at.behind_it at.leads rest.leads);
           ends = ended rest.ends;
         }
       where
+        number_next : next_waiting after x.sides ≡ Some next.known.number
+        number_next = ap (λ (o : Option Entry). option_map (λ e. e.exchange.number) o) is ∙ ap (λ (m : ℕ). Some m) next.shows.number
+
         step : Steps p more after x log y (Some next.known.number)
         step = subst (λ (m : ℕ). Steps p more after x log y (Some m)) next.shows.number (subst (λ (o : Option Entry). Steps p more after x log y (option_map (λ e. e.exchange.number) o)) is run)
 
@@ -177,23 +182,24 @@ loop number p May on (suc more) after x y s t log stands so run =
               step.0,
               step.1,
               step.2,
-              ap (λ (o : Option Entry). option_map (λ e. e.exchange.number) o) is ∙ ap (λ (m : ℕ). Some m) next.shows.number,
+              number_next,
               step.3,
               step.4,
               subst (λ (v : Placed). Reaches more (moment_of p) (goes_on_behind v next.known.number) step.0 step.2 y) (sym (places number p x t stands.shows stands.late next.known next.un)) reached,
             )
 
-pub run : (number : ℕ → ℕ) (p : Turn) (May : Log → State → Type 0) → LeadsOn number p May → (x : Around) (s : State) → ShowsAround number p x s → MayPlace s → (more : ℕ) (log : Log) (y : Around) → May log s → ArePlaced more (moment_of p) None x log y → AreLed number p more x log y s
+pub run : (number : ℕ → ℕ) (p : Turn) (May : Option ℕ → Around → Log → State → Type 0) → LeadsOn number p May → (x : Around) (s : State) → ShowsAround number p x s → MayPlace s → (more : ℕ) (log : Log) (y : Around) → May None x log s → ArePlaced more (moment_of p) None x log y
+    → AreLed number p more x log y s
 run number p May on x s shows may more log y so steps =
     let end : Ends number p more None x log y s = loop number p May on more None x y s s log (from_start number p x s shows may) so steps in record { state = end.state; leads = end.leads; ends = end.ends }
 
 -- where no dial is refused
 pub all : AllPlacesAreTheLaws
 all number p x s shows may more log y calm steps =
-    run number p (λ (hs : Log) (t : State). AreCalm hs)
+    run number p (λ (after : Option ℕ) (z : Around) (hs : Log) (t : State). AreCalm hs)
     (record {
-      first = λ one two hs t is so. calm_first one two hs is so;
-      rest = λ one two hs t u is leads so. calm_rest one two hs is so;
-      dials = λ z t e hs w shown ok un waits so dial. dials number p z t shown ok e hs w un waits so dial;
+      front = λ after z one two hs t is so. calm_first one two hs is so;
+      behind_it = λ after z next n one two hs t u waiting placed is leads so. calm_rest one two hs is so;
+      dials = λ after z t e hs w shown ok un waits so dial. dials number p z t shown ok e hs w un waits so dial;
     })
     x s shows may more log y calm steps

@@ -21,7 +21,9 @@ use Rattle.pp_world.specs.declared.event.Side.TheVariants.{Client as OfClient}
 
 -- connections are closed, and a client that is closing asks nothing
 pub record MayShut (s : State) : Type 0 where
+  -- the phase that is come to, behind the last decision
   pub connecting : IsConnecting s
+  -- SoundTurn.`IsSoundTurn` of `pp_laws_turn`, `alone`
   pub alone : (n : ℕ) (c : Client) → client s n ≡ Some c → c.is_closing ≡ true → find (is_of n) s.exchanges ≡ None
 
 -- each of these connections is open, as a client's
@@ -47,7 +49,8 @@ pub record AreShut (number : ℕ → ℕ) (p : Turn) (peers : List Peer) (log : 
   pub shows : ShowsSides number p.name.items (sides_left p peers) state
   pub closed : has_closings state ≡ false
 
--- before Stop
+-- before Stop. Those who are looked at are known from wait to wait (Firsts.`AreAwake` of `pp_turns_law`); each client and each connection that
+-- is there is open, from one opening, dial and closing to the next
 abbrev pub ClosingsAreTheLaws : Type 0
 ClosingsAreTheLaws = (number : ℕ → ℕ) (p : Turn) (peers : List Peer) (s : State) (links : List Link) → ShowsSides number p.name.items (sides_of p peers) s → AreAwake p → p.is_stopped ≡ false → MayShut s
     → AreOpen (over_clients p) links → AreLinked (over_peers false peers) links → AreShut number p peers (closings (over_in p peers) links) s

@@ -1,6 +1,6 @@
 -- A dial is refused amid the places: its exchange is asked elsewhere, or is over, and followers ask for what is missing at once (RFC 2616,
 -- section 8.1.4; RFC 7233, section 3.2).
-use Rattle.std.specs.Prelude.{◌≡◌, ◌+◌, ℕ, false, Some, None}
+use Rattle.std.specs.Prelude.{◌≡◌, ◌+◌, ℕ, false, Option, Some, None}
 use Rattle.pp_cache.specs.Bounds.{IsBounded}
 use Rattle.pp_decides_law.specs.Fills.{HasRoomForAll, MayAllFill}
 use Rattle.pp_flow.specs.Changes.{entry_of}
@@ -16,7 +16,7 @@ use Rattle.pp_steps_law.specs.Charges.{GoesOn, IsFor}
 use Rattle.pp_turns_law.specs.Firsts.{AreAwake}
 use Rattle.pp_world.specs.Log.{Log}
 use Rattle.pp_places_law.specs.Around.{MayPlace, ShowsAround}
-use Rattle.pp_places_law.specs.Places.{AreLed, IsLed, IsUnplaced, OfPlaces, OfPlacing}
+use Rattle.pp_places_law.specs.Places.{AreLed, IsLed, IsUnplaced, OfPlaces, OfPlacing, Reaches}
 
 -- ---- what is so amid it
 
@@ -30,13 +30,18 @@ lost_in e s = lose_attempt e (record s { failures = s.failures + 1 })
 
 -- where it is over, what each follows is there, and until all is to be closed there is room for what each asks
 pub record MayFillThen (q : Turn) (s : State) : Type 0 where
+  -- from wait to wait: a loss leaves who is silent as he is
   pub awake : AreAwake q
+  -- of each client that goes on, as before the loss
   pub fill : MayAllFill q s
+  -- as before: at most 768 exchanges are there, and 256 clients (SoundTurn.`IsSoundTurn` of `pp_laws_turn`, `bounded`)
   pub room : s.is_stopped ≡ false → HasRoomForAll q s
 
--- its client goes on, and memory was refused for no row that it waits for; behind the attempt that is lost the cache is bounded, as each is
+-- behind the attempt that is lost
 pub record MayBeRefused (p : Turn) (x : Around) (s : State) (e : Exchange) : Type 0 where
+  -- its client goes on (SoundTurn.`IsSoundTurn` of `pp_laws_turn`, `askers`), and memory was refused for no row that it waits for
   pub goes : IsFor s e GoesOn
+  -- the cache is bounded, as each is (`Cache::bounds` of `pp_cache`)
   pub bounded : (y : Entry) → entry_of e.number x.sides.parts.flow ≡ Some y → IsBounded (lost_attempt y.exchange x.sides.parts).cache
   pub then : (y : Entry) → entry_of e.number x.sides.parts.flow ≡ Some y → may_ask_again (lost_in e s) e.number ≡ false
       → MayFillThen (turn_with (ended e.number (lost_attempt y.exchange x.sides.parts)) p) (end_exchange e.number (lost_in e s))
@@ -51,8 +56,9 @@ AnswersAreTheLaws = OfPlacing (λ number p x s. (e : Exchange) (log : Log) (y : 
 -- ---- all of them
 
 -- wherever the turn comes to, each dial may be refused
-abbrev pub EachMayBeRefused : (ℕ → ℕ) → Turn → State → Type 0
-EachMayBeRefused number p s = (hs : Log) (t : State) (x : Around) (e : Exchange) → Leads hs s t → MayPlace t → ShowsAround number p x (placing t).state → (placing t).pause ≡ WaitsDial e → MayBeRefused p x (placing t).state e
+abbrev pub EachMayBeRefused : (ℕ → ℕ) → Turn → Option ℕ → Around → State → Type 0
+EachMayBeRefused number p after x s = (steps : ℕ) (hs : Log) (z : Around) (t : State) (e : Exchange) → Reaches steps (moment_of p) after x hs z → Leads hs s t → MayPlace t → ShowsAround number p z (placing t).state → (placing t).pause ≡ WaitsDial e
+    → MayBeRefused p z (placing t).state e
 
 abbrev pub AllAnswersAreTheLaws : Type 0
-AllAnswersAreTheLaws = OfPlaces (λ number p x s. (more : ℕ) (log : Log) (y : Around) → EachMayBeRefused number p s → ArePlaced more (moment_of p) None x log y → AreLed number p more x log y s)
+AllAnswersAreTheLaws = OfPlaces (λ number p x s. (more : ℕ) (log : Log) (y : Around) → EachMayBeRefused number p None x s → ArePlaced more (moment_of p) None x log y → AreLed number p more x log y s)
