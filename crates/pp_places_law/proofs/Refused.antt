@@ -53,7 +53,7 @@ use Rattle.pp_places_law.proofs.Fits.{placing_may}
 use Rattle.pp_places_law.proofs.Still.{fill_may, lost_may, over_may}
 use Rattle.pp_places_law.specs.Around.{MayPlace, ShowsAround, ShowsTurnWith}
 use Rattle.pp_places_law.specs.Places.{IsLed, IsUnplaced}
-use Rattle.pp_places_law.specs.Refusals.{AnswersAreTheLaws, MayBeRefused, MayFillThen, lost_in, turn_with}
+use Rattle.pp_places_law.specs.Refusals.{AnswersAreTheLaws, MayBeRefused, MayFillThen, lost_in}
 
 -- ---- the outside failed once more
 
@@ -173,23 +173,38 @@ module _ (number : ℕ → ℕ) (p : Turn) (x : Around) (t : State) (e : Exchang
 
   -- ---- followers ask
 
-  abbrev behind : Turn
-  behind = turn_with (ended e.number q) p
-
   abbrev asked : Parts
   asked = filled p.is_stopped p.name.items p.awake.items (ended e.number q)
 
-  over_turn : ShowsTurn number none_leaves x.sides.peers behind over
-  over_turn =
+  over_turn : (then : MayFillThen p (ended e.number q) over) → ShowsTurn number none_leaves x.sides.peers then.turn over
+  over_turn then =
       let all : ShowsAround number p (sides_with (ended e.number q) x) over = around_after number p x t over (ended e.number q) shows over_steps (refusable.bounded y here) (ended_can e.number q can) (frame_of over_stays) in
-      record { steps = over_steps; name = all.turn.name; shares = all.turn.shares; clock = all.turn.clock; ticked = all.turn.ticked; stopped = all.turn.stopped; bounded = all.turn.bounded }
+      record {
+        steps =
+            subst (λ (name : Bytes). ShowsSteps number name none_leaves x.sides.peers (parts then.turn) over) (sym (ap (λ (v : Turn). v.name.items) then.rest))
+            (subst (λ (r : Parts). ShowsSteps number p.name.items none_leaves x.sides.peers r over) (sym then.is) over_steps);
+        name = ap (λ (v : Turn). v.name.items) then.rest ∙ all.turn.name;
+        shares = ap (λ (v : Turn). v.shares_fetches) then.rest ∙ all.turn.shares;
+        clock = ap (λ (v : Turn). v.now) then.rest ∙ all.turn.clock;
+        ticked = ap (λ (v : Turn). v.is_ticked) then.rest ∙ all.turn.ticked;
+        stopped = ap (λ (v : Turn). v.is_stopped) then.rest ∙ all.turn.stopped;
+        bounded = subst (λ (r : Parts). IsBounded r.cache) (sym then.is) all.turn.bounded;
+      }
 
-  filled_turn : may_ask_again u e.number ≡ false → ShowsTurn number none_leaves x.sides.peers (turn_with asked p) (fill over)
+  asked_is : (then : MayFillThen p (ended e.number q) over) → parts then.behind ≡ asked
+  asked_is then =
+      then.filled.is
+      ∙ ap (λ (v : Turn). filled v.is_stopped v.name.items v.awake.items (parts then.turn)) then.rest
+      ∙ ap (λ (r : Parts). filled p.is_stopped p.name.items p.awake.items r) then.is
+
+  filled_turn : may_ask_again u e.number ≡ false → ShowsSteps number p.name.items none_leaves x.sides.peers asked (fill over) × IsBounded asked.cache
   filled_turn none =
-      let then : MayFillThen behind over = refusable.then y here none in
-      let all : IsFilledAs number none_leaves x.sides.peers (turn_with asked p) (fill over) =
-      fills_all number none_leaves x.sides.peers behind (turn_with asked p) over over_turn then.awake then.fill then.room (record { is = refl; rest = refl }) in
-      all.turn
+      let then : MayFillThen p (ended e.number q) over = refusable.then y here none in
+      let all : IsFilledAs number none_leaves x.sides.peers then.behind (fill over) = fills_all number none_leaves x.sides.peers then.turn then.behind over (over_turn then) then.awake then.fill then.room then.filled in (
+        subst (λ (r : Parts). ShowsSteps number p.name.items none_leaves x.sides.peers r (fill over)) (asked_is then)
+            (subst (λ (name : Bytes). ShowsSteps number name none_leaves x.sides.peers (parts then.behind) (fill over)) (ap (λ (v : Turn). v.name.items) then.filled.rest ∙ ap (λ (v : Turn). v.name.items) then.rest) all.turn.steps),
+        subst (λ (r : Parts). IsBounded r.cache) (asked_is then) all.turn.bounded,
+      )
 
   may_filled : MayPlace (fill over)
   may_filled = fill_may over may_over (frame_of (fill-stays over (stays refl)))
@@ -205,8 +220,8 @@ module _ (number : ℕ → ℕ) (p : Turn) (x : Around) (t : State) (e : Exchang
   shown : (b : Bool) → may_ask_again u e.number ≡ b → ShowsAround number p (sides_with (again_if b) x) (law_again_if b) × MayPlace (law_again_if b)
   shown true is = (around_after number p x t u q shows lost (refusable.bounded y here) can (frame_of lost_stays), may_lost)
   shown false is =
-      let turn : ShowsTurn number none_leaves x.sides.peers (turn_with asked p) (fill over) = filled_turn is in (
-        around_after number p x t (fill over) asked shows turn.steps turn.bounded (filled_can p.is_stopped p.name.items p.awake.items (ended e.number q) (ended_can e.number q can)) (frame_of (fill-stays over over_stays)),
+      let turn : ShowsSteps number p.name.items none_leaves x.sides.peers asked (fill over) × IsBounded asked.cache = filled_turn is in (
+        around_after number p x t (fill over) asked shows turn.0 turn.1 (filled_can p.is_stopped p.name.items p.awake.items (ended e.number q) (ended_can e.number q can)) (frame_of (fill-stays over over_stays)),
         may_filled,
       )
 

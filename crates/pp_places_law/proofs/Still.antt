@@ -18,6 +18,7 @@ use Rattle.pp_obeys.proofs.Frames.{Frame, frame}
 use Rattle.pp_places_law.proofs.Fits.{any_mapped, given_at}
 use Rattle.pp_places_law.specs.Around.{MayPlace}
 use Rattle.pp_target.specs.Key.{Key, text_of}
+use Rattle.pp_target.specs.declared.target.TargetFault.{TargetFault}
 
 -- ---- connections stay, and no client is closing
 
@@ -89,7 +90,7 @@ fill_span_quiet {ks} c n span s quiet = by c.front
     named : (r : Parsed) → Quiet ks (elim r.key as (λ x. State) [ Ok key ↦ fill_with (filling_exchange s c r.head key n span) c s | Err fault ↦ s ])
     named r = at r.key
       where
-        at : (o : Result Key _) → Quiet ks (elim o as (λ x. State) [ Ok key ↦ fill_with (filling_exchange s c r.head key n span) c s | Err fault ↦ s ])
+        at : (o : Result Key TargetFault) → Quiet ks (elim o as (λ x. State) [ Ok key ↦ fill_with (filling_exchange s c r.head key n span) c s | Err fault ↦ s ])
         at (Ok key) = fill_with_quiet (filling_exchange s c r.head key n span) c s quiet
         at (Err fault) = quiet
 

@@ -2,7 +2,7 @@
 -- section 8.1.4; RFC 7233, section 3.2).
 use Rattle.std.specs.Prelude.{◌≡◌, ◌+◌, ℕ, false, Option, Some, None}
 use Rattle.pp_cache.specs.Bounds.{IsBounded}
-use Rattle.pp_decides_law.specs.Fills.{HasRoomForAll, MayAllFill}
+use Rattle.pp_decides_law.specs.Fills.{HasRoomForAll, IsFilled, MayAllFill}
 use Rattle.pp_flow.specs.Changes.{entry_of}
 use Rattle.pp_flow.specs.declared.entry.Entry.{Entry}
 use Rattle.pp_law.specs.Connections.{WaitsDial, end_exchange, lose_attempt, may_ask_again, placing}
@@ -10,7 +10,7 @@ use Rattle.pp_law.specs.State.{State, Exchange}
 use Rattle.pp_obeys.specs.Moves.{Leads}
 use Rattle.pp_places.specs.Around.{Around, moment_of}
 use Rattle.pp_places.specs.Placing.{ArePlaced, IsDialledFor}
-use Rattle.pp_state.specs.Ends.{Parts, ended, lost_attempt}
+use Rattle.pp_state.specs.Ends.{KeepsRest, Parts, ended, lost_attempt, parts}
 use Rattle.pp_state.specs.declared.state.State.{State as Turn}
 use Rattle.pp_steps_law.specs.Charges.{GoesOn, IsFor}
 use Rattle.pp_turns_law.specs.Firsts.{AreAwake}
@@ -20,22 +20,23 @@ use Rattle.pp_places_law.specs.Places.{AreLed, IsLed, IsUnplaced, OfPlaces, OfPl
 
 -- ---- what is so amid it
 
--- the turn with these clients, exchanges and rows
-abbrev pub turn_with : Parts → Turn → Turn
-turn_with q p = record p { seats = record p.seats { items = q.seats }; flow = q.flow; cache = q.cache; refused = q.refused }
-
 -- the outside failed once more, and an attempt is lost
 abbrev pub lost_in : Exchange → State → State
 lost_in e s = lose_attempt e (record s { failures = s.failures + 1 })
 
--- where it is over, what each follows is there, and until all is to be closed there is room for what each asks
-pub record MayFillThen (q : Turn) (s : State) : Type 0 where
+-- where it is over: the turn has these clients, exchanges and rows then, and those behind it where followers asked
+pub record MayFillThen (p : Turn) (q : Parts) (s : State) : Type 0 where
+  pub turn : Turn
+  pub is : parts turn ≡ q
+  pub rest : KeepsRest p turn
+  pub behind : Turn
+  pub filled : IsFilled turn behind
   -- from wait to wait: a loss leaves who is silent as he is
-  pub awake : AreAwake q
-  -- of each client that goes on, as before the loss
-  pub fill : MayAllFill q s
+  pub awake : AreAwake turn
+  -- what each client that goes on follows is there, as before the loss
+  pub fill : MayAllFill turn s
   -- as before: at most 768 exchanges are there, and 256 clients (SoundTurn.`IsSoundTurn` of `pp_laws_turn`, `bounded`)
-  pub room : s.is_stopped ≡ false → HasRoomForAll q s
+  pub room : s.is_stopped ≡ false → HasRoomForAll turn s
 
 -- behind the attempt that is lost
 pub record MayBeRefused (p : Turn) (x : Around) (s : State) (e : Exchange) : Type 0 where
@@ -44,7 +45,7 @@ pub record MayBeRefused (p : Turn) (x : Around) (s : State) (e : Exchange) : Typ
   -- the cache is bounded, as each is (`Cache::bounds` of `pp_cache`)
   pub bounded : (y : Entry) → entry_of e.number x.sides.parts.flow ≡ Some y → IsBounded (lost_attempt y.exchange x.sides.parts).cache
   pub then : (y : Entry) → entry_of e.number x.sides.parts.flow ≡ Some y → may_ask_again (lost_in e s) e.number ≡ false
-      → MayFillThen (turn_with (ended e.number (lost_attempt y.exchange x.sides.parts)) p) (end_exchange e.number (lost_in e s))
+      → MayFillThen p (ended e.number (lost_attempt y.exchange x.sides.parts)) (end_exchange e.number (lost_in e s))
 
 -- ---- one dial
 
