@@ -165,7 +165,7 @@ loop number p May on (suc more) after x y s t log stands so run =
         record {
           state = rest.state;
           leads = subst (λ (hs : Log). Leads hs s rest.state) (sym step.3) (leads_then (λ v. v ≡ rest.state) step.1 step.2 s at.behind_it at.leads rest.leads);
-          ends = ended rest.ends;
+          ends = ended {u = rest.state} rest.ends;
         }
       where
         number_next : next_waiting after x.sides ≡ Some next.known.number

@@ -169,7 +169,7 @@ module _ (number : ℕ → ℕ) (p : Turn) (x : Around) (t : State) (e : Exchang
   over_stays = end_exchange-stays e.number u lost_stays
 
   may_over : MayPlace over
-  may_over = over_may e.number u may_lost (frame_of (end_exchange-stays e.number u (stays refl)))
+  may_over = over_may e.number u may_lost (frame_of {all = false} (end_exchange-stays e.number u (stays refl)))
 
   -- ---- followers ask
 
@@ -207,7 +207,7 @@ module _ (number : ℕ → ℕ) (p : Turn) (x : Around) (t : State) (e : Exchang
       )
 
   may_filled : MayPlace (fill over)
-  may_filled = fill_may over may_over (frame_of (fill-stays over (stays refl)))
+  may_filled = fill_may over may_over (frame_of {all = false} (fill-stays over (stays refl)))
 
   -- ---- in all
 
