@@ -1,7 +1,7 @@
 -- What can be asked stays such as an attempt is lost, as an exchange is over, and as followers ask for what is missing.
 use Rattle.std.proofs.Common.{◌≡◌, ◌≤◌, ◌+◌, ◌-◌, refl, sym, subst, ap, ◌∙◌, ℕ, Bool, true, false, cond, nat_le, length, List, [], ◌∷◌, ◌++◌, Option, Some, None, arith}
 use Rattle.std.proofs.lemmas.Bool.Decides.{nat_tests}
-use Rattle.std.specs.Prelude.{slice_get, option_map}
+use Rattle.std.specs.Prelude.{slice_get}
 use Rattle.pp_client.specs.Requests.{Front, Nothing, Begun, Asked as IsAsked, Refused, current_of}
 use Rattle.pp_decide.specs.Decide.{fits, text_by}
 use Rattle.pp_flow.specs.Changes.{Exchanges, changed, entry_of}

@@ -34,7 +34,6 @@ use Rattle.pp_seats_law.proofs.Entries.{exchanges}
 use Rattle.pp_seats_law.specs.Exchanges.{ShowsExchange}
 use Rattle.pp_seats_law.specs.Fates.{aim_of}
 use Rattle.pp_desk.specs.Closings.{Sides}
-use Rattle.pp_state.specs.Ends.{parts}
 use Rattle.pp_state.specs.declared.state.State.{State as Turn}
 use Rattle.pp_states_law.proofs.PutOn.{puts as state_puts}
 use Rattle.pp_states_law.specs.Decisions.{AreApart}

@@ -1,10 +1,9 @@
 -- A dial is refused: its exchange is asked elsewhere, or is over.
 use Rattle.std.proofs.Common.{◌≡◌, ◌≤◌, ◌+◌, refl, sym, subst, ap, ap₂, ◌∙◌, ℕ, Bool, true, false, ◌&&◌, List, [], ◌∷◌, Option, Some, None, Result, Ok, Err}
-use Rattle.std.specs.Prelude.{count_by}
 use Rattle.std.specs.Result.{result_unwrap_or}
 use Rattle.pp_cache.specs.Bounds.{IsBounded}
 use Rattle.pp_cache_law.specs.Pairs.{AreBoth}
-use Rattle.pp_closings_law.proofs.Noted.{at_it, stays as stays_there}
+use Rattle.pp_closings_law.proofs.Noted.{stays as stays_there}
 use Rattle.pp_closings_law.proofs.Over.{over_conns, over_with}
 use Rattle.pp_closings_law.proofs.Standing.{nowhere}
 use Rattle.pp_decides_law.proofs.All.{fills_all}
@@ -14,12 +13,12 @@ use Rattle.pp_flow.specs.Changes.{entry_of}
 use Rattle.pp_flow.specs.declared.entry.Entry.{Entry}
 use Rattle.pp_flow_law.specs.Tables.{none_leaves}
 use Rattle.pp_law.specs.After.{after, changed, refused_dial, undialled}
-use Rattle.pp_law.specs.Connections.{Pause, Placement, AllPlaced, WaitsDial, WaitsDrop, attempts_of, charge, conn, end_exchange, exchange, limits, lose_attempt, lost_one, may_ask_again, placing}
+use Rattle.pp_law.specs.Connections.{Pause, AllPlaced, WaitsDial, WaitsDrop, attempts_of, end_exchange, lose_attempt, lost_one, may_ask_again, placing}
 use Rattle.pp_law.specs.Followers.{fill}
 use Rattle.pp_law.specs.Lists.{Bytes}
 use Rattle.pp_law.specs.Opening.{may_fail}
 use Rattle.pp_law.specs.Permits.{IsPermitted, is_permitted, permits, permits_behind_forgotten, permits_dial}
-use Rattle.pp_law.specs.State.{State, Client, Conn, Exchange}
+use Rattle.pp_law.specs.State.{State, Client, Exchange}
 use Rattle.pp_links.specs.Links.{Link, links_with}
 use Rattle.pp_obeys.proofs.Frames.{Frame, Stays, frame, frame_of, stays}
 use Rattle.pp_obeys.proofs.StaysAsks.{fill-stays}
@@ -27,7 +26,7 @@ use Rattle.pp_obeys.proofs.StaysTable.{end_exchange-stays, lose_attempt-stays}
 use Rattle.pp_obeys.specs.Moves.{Leads}
 use Rattle.pp_peers.specs.declared.peers.Peer.{Peer}
 use Rattle.pp_peers.specs.declared.placing.Limits.{Limits}
-use Rattle.pp_places.specs.Around.{Around, Moment, moment_of, with_sides}
+use Rattle.pp_places.specs.Around.{Around, moment_of}
 use Rattle.pp_places.specs.Placing.{met_at, new_one}
 use Rattle.pp_seats_law.specs.Exchanges.{ShowsExchange}
 use Rattle.pp_state.specs.Ends.{Parts, ended, lost_attempt, may_ask_again as may_ask_again_in, parts}
@@ -51,7 +50,7 @@ use Rattle.pp_places_law.proofs.Askable.{CanBeAsked, ended_can, filled_can, lost
 use Rattle.pp_places_law.proofs.Dials.{IsCalledFor, called_for, log_called, may_call, meets}
 use Rattle.pp_places_law.proofs.Fits.{placing_may}
 use Rattle.pp_places_law.proofs.Still.{fill_may, lost_may, over_may}
-use Rattle.pp_places_law.specs.Around.{MayPlace, ShowsAround, ShowsTurnWith}
+use Rattle.pp_places_law.specs.Around.{MayPlace, ShowsAround}
 use Rattle.pp_places_law.specs.Places.{IsLed, IsUnplaced}
 use Rattle.pp_places_law.specs.Refusals.{AnswersAreTheLaws, MayBeRefused, MayFillThen, lost_in}
 

@@ -12,7 +12,7 @@ use Rattle.pp_law.specs.Followers.{fill, fill_for, fill_next, fill_span, fill_wi
 use Rattle.pp_law.specs.Lists.{Bytes, change}
 use Rattle.pp_law.specs.Requests.{Front, Parsed, NoHeadYet, NoHead, IsRequest}
 use Rattle.pp_law.specs.Stages.{is_begun}
-use Rattle.pp_law.specs.State.{State, Client, Conn, Course, Exchange, AskTooLong}
+use Rattle.pp_law.specs.State.{State, Client, Conn, Exchange, AskTooLong}
 use Rattle.pp_law.specs.Table.{Next, clear, next_of, swept}
 use Rattle.pp_obeys.proofs.Frames.{Frame, frame}
 use Rattle.pp_places_law.proofs.Fits.{any_mapped, given_at}

@@ -23,7 +23,6 @@ use Rattle.pp_laws_bounds.proofs.Places.{IsIdle, drop_idle, placing-any, placing
 use Rattle.pp_links.specs.Links.{is_other, without as without_link}
 use Rattle.pp_obeys.specs.Moves.{Leads}
 use Rattle.pp_peers.specs.Peers.{is_number, without as without_peer}
-use Rattle.pp_peers.specs.declared.peers.Peer.{Peer}
 use Rattle.pp_places.specs.Around.{Around}
 use Rattle.pp_places.specs.Placing.{given_way}
 use Rattle.pp_state.specs.declared.state.State.{State as Turn}
