@@ -5,6 +5,7 @@ pub mod Walks
 pub mod Ways
 pub mod Puts
 pub mod Dials
+pub mod Ended
 pub mod Loops
 pub mod Shuts
 pub mod Askable

@@ -20,6 +20,7 @@ use Rattle.pp_places.specs.Placing.{ArePlaced, IsDialledFor, IsPlaced, IsPlacedA
 use Rattle.pp_state.specs.declared.state.State.{State as Turn}
 use Rattle.pp_world.specs.Log.{Log}
 use Rattle.pp_places_law.proofs.Dials.{dials}
+use Rattle.pp_places_law.proofs.Ended.{done_is, next_shows}
 use Rattle.pp_places_law.proofs.Puts.{places, puts}
 use Rattle.pp_places_law.proofs.Walks.{IsNext, all_there, behind, behind_put, by_place, from_first, stops_at, walks}
 use Rattle.pp_places_law.proofs.Ways.{ways}
@@ -128,11 +129,11 @@ record Ends (number : ℕ → ℕ) (p : Turn) (more : ℕ) (after : Option ℕ) 
   ends : HavePlaces number p y state ⊎ Reaches more (moment_of p) after x log y
 
 nothing : (number : ℕ → ℕ) (p : Turn) (after : Option ℕ) (x : Around) (log : Log) (y : Around) (s t : State) → Stands number p after x s t → placing s ≡ record { state = t; pause = AllPlaced } → y ≡ x → HavePlaces number p y s
-nothing number p after x log y s t stands is same = record {
-  placed = ap (λ (q : Placement). is_placed q.pause) is;
-  shows = subst (λ (q : Placement). ShowsAround number p y q.state) (sym is) (subst (λ (z : Around). ShowsAround number p z t) (sym same) stands.shows);
-  may = stands.may;
-}
+nothing number p after x log y s t stands is same =
+    let placed : is_placed (placing s).pause ≡ true = ap (λ (q : Placement). is_placed q.pause) is in
+    let shows : ShowsAround number p y (placing s).state =
+    subst (λ (q : Placement). ShowsAround number p y q.state) (sym is) (subst (λ (z : Around). ShowsAround number p z t) (sym same) stands.shows) in
+    record { placed = placed; shows = shows; may = stands.may; done = done_is s stands.may placed; behind = next_shows number p y s stands.may shows }
 
 abbrev Steps : Turn → ℕ → Option ℕ → Around → Log → Around → Option ℕ → Type 0
 Steps p more after x log y o = elim o [

@@ -18,15 +18,18 @@ use Rattle.pp_desk.specs.Closings.{Sides}
 use Rattle.pp_desk.specs.Shutting.{closed_as, closings, is_any_over, over_client, over_clients, over_peers, seats_left, stays}
 use Rattle.pp_flow_law.proofs.Entries.{none_some, other_way, same_number}
 use Rattle.pp_flow_law.specs.Tables.{AreGiven}
-use Rattle.pp_law.specs.After.{after, changed, shut}
+use Rattle.pp_law.specs.After.{after, changed, dropped, out, shut}
 use Rattle.pp_law.specs.Closing.{close_client, is_of}
-use Rattle.pp_law.specs.Connections.{client, is_client, on_client}
+use Rattle.pp_law.specs.Connections.{client, conn, is_client, on_client, placing}
 use Rattle.pp_law.specs.Lists.{Bytes, has_number, without}
 use Rattle.pp_law.specs.Permits.{IsPermitted}
 use Rattle.pp_law.specs.State.{State, Client, Conn, Exchange}
 use Rattle.pp_law.specs.Table.{swept}
 use Rattle.pp_links.specs.Links.{Link, is_link, is_other, without as without_link}
+use Rattle.pp_obeys.proofs.Frames.{Frame, frame, frame_of, stays as frame_stays}
 use Rattle.pp_obeys.proofs.Moving.{leads_then}
+use Rattle.pp_obeys.proofs.StaysTable.{close_client-stays}
+use Rattle.pp_obeys.proofs.StaysTurns.{placing-frame}
 use Rattle.pp_obeys.specs.Failures.{wakes}
 use Rattle.pp_obeys.specs.Moves.{Leads}
 use Rattle.pp_peers.specs.Peers.{goes_on}
@@ -47,7 +50,7 @@ use Rattle.pp_world.specs.Wire.{by_side}
 use Rattle.pp_world.specs.declared.event.Side.{Side}
 use Rattle.pp_world.specs.declared.event.Side.TheVariants.{Client as OfClient, Origin}
 use Rattle.pp_world.specs.declared.happening.Happening.TheVariants.{Dropped, Shut}
-use Rattle.pp_places_law.specs.Closings.{AreOpen, ClosingsAreTheLaws, MayShut, sides_of}
+use Rattle.pp_places_law.specs.Closings.{AreOpen, ClosingsAreTheLaws, MayShut, StaysOn, sides_of}
 
 -- ---- one is shut
 
@@ -57,6 +60,57 @@ shut_of n u = record u { clients = without (is_client n) u.clients }
 goes : (s : State) (n : ℕ) → IsConnecting s → find (is_of n) s.exchanges ≡ None → after s (Shut n) ≡ shut_of n (quitting n false s)
 unfolding changed shut
 goes s n is none = ap (λ (t : State). shut_of n (close_client n false t)) (stays_there s is) ∙ ap (λ (t : State). shut_of n t) (law_none n false s none)
+
+-- what connections and clients do not show stays
+closing_frame : (link : Link) (s : State) → IsConnecting s → frame false (after s (by_side (Some link.1) (Shut link.0) (Dropped link.0))) ≡ frame false s
+closing_frame link s is = by link.1
+  where
+    of_client : (n : ℕ) → frame false (after s (Shut n)) ≡ frame false s
+    unfolding changed shut
+    of_client n = ap (λ (t : State). frame false (close_client n false t)) (stays_there s is) ∙ frame_of {all = false} (close_client-stays n false s (frame_stays refl))
+
+    out_frame : (n : ℕ) (t : State) → frame false (out n t) ≡ frame false t
+    unfolding out
+    out_frame n t = refl
+
+    drops : (n : ℕ) (o : Option Conn) → frame false (elim o as (λ t. State) [ None ↦ s | Some k ↦ elim k.is_closing as (λ t. State) [ true ↦ out n s | false ↦ out n (placing s).state ] ]) ≡ frame false s
+    drops n None = refl
+    drops n (Some k) = at k.is_closing
+      where
+        at : (b : Bool) → frame false (elim b as (λ t. State) [ true ↦ out n s | false ↦ out n (placing s).state ]) ≡ frame false s
+        at true = out_frame n s
+        at false = out_frame n (placing s).state ∙ placing-frame false s
+
+    of_origin : (n : ℕ) → frame false (after s (Dropped n)) ≡ frame false s
+    unfolding changed dropped
+    of_origin n = ap (λ (t : State). frame false (dropped n t)) (stays_there s is) ∙ drops n (conn s n)
+
+    by : (side : Side) → frame false (after s (by_side (Some side) (Shut link.0) (Dropped link.0))) ≡ frame false s
+    by OfClient = of_client link.0
+    by Origin = of_origin link.0
+
+connecting_still : (s t : State) → IsConnecting s → frame false t ≡ frame false s → IsConnecting t
+connecting_still s t is same = record { at = ap (λ (f : Frame). f.phase) same ∙ is.at; none = ap (λ (f : Frame). f.made_room_for) same ∙ is.none }
+
+closings_frame : (ids : List ℕ) (links : List Link) (s : State) → IsConnecting s → frame false (fold after s (closings ids links)) ≡ frame false s
+closings_frame [] links s is = refl
+closings_frame (id ∷ ids) links s is = by (find (is_link id) links)
+  where
+    by : (o : Option Link) → frame false (fold after s (closed_as o ++ closings ids (without_link id links))) ≡ frame false s
+    by None = closings_frame ids (without_link id links) s is
+    by (Some link) =
+        let same : frame false (after s (by_side (Some link.1) (Shut link.0) (Dropped link.0))) ≡ frame false s = closing_frame link s is in
+        closings_frame ids (without_link id links) (after s (by_side (Some link.1) (Shut link.0) (Dropped link.0))) (connecting_still s (after s (by_side (Some link.1) (Shut link.0) (Dropped link.0))) is same) ∙ same
+
+stays_on : (s t : State) → IsConnecting s → frame false t ≡ frame false s → StaysOn s t
+stays_on s t is same = record {
+  connecting = connecting_still s t is same;
+  settings = ap (λ (f : Frame). f.settings) same;
+  clock = ap (λ (f : Frame). f.clock) same;
+  ticked = ap (λ (f : Frame). f.is_ticked) same;
+  stopped = ap (λ (f : Frame). f.is_stopped) same;
+  top = ap (λ (f : Frame). f.top) same;
+}
 
 still_connecting : (s : State) (n : ℕ) → IsConnecting s → IsConnecting (shut_of n (quitting n false s))
 unfolding swept on_client
@@ -158,9 +212,10 @@ record AllShut (number : ℕ → ℕ) (name : Bytes) (ns : List ℕ) (x : Sides)
   leads : Leads (shut_in ns) s state
   shows : ShowsSides number name (sides_with x (without_clients ns x.parts.seats)) state
   may : MayShut state
+  same : frame false state ≡ frame false s
 
 each_shut : (number : ℕ → ℕ) (name : Bytes) (ns : List ℕ) (x : Sides) (s : State) → ShowsSides number name x s → MayShut s → AreDistinct ns → AreOver ns x.parts.seats → AllShut number name ns x s
-each_shut number name [] x s shows may once over = record { state = s; leads = refl; shows = shows; may = may }
+each_shut number name [] x s shows may once over = record { state = s; leads = refl; shows = shows; may = may; same = refl }
 each_shut number name (n ∷ ns) x s shows may once over =
     let same : after s (Shut n) ≡ shut_of n (quitting n false s) = goes s n may.connecting none_asks in
     let rest : AllShut number name ns (sides_with x (filter (isnt_it n) x.parts.seats)) (after s (Shut n)) =
@@ -170,6 +225,7 @@ each_shut number name (n ∷ ns) x s shows may once over =
       leads = record { awake = refl; may = λ failed. one.0; holds = rest.leads };
       shows = rest.shows;
       may = rest.may;
+      same = rest.same ∙ closing_frame (n, OfClient) s may.connecting;
     }
   where
     its : IsOver n x.parts.seats
@@ -508,4 +564,5 @@ closes number p peers s links shows awake going may open_ones linked =
       closed =
           ap₂ (λ (a b : Bool). a || b) (no_client number p.name.items p.seats.items behind.clients dropped.behind.steps.shows.clients)
           (no_conn behind peers behind.conns dropped.behind.steps.shows.conns);
+      stays = stays_on s behind may.connecting (closings_frame (over_peers false peers) log.left gone.state gone.may.connecting ∙ gone.same);
     }

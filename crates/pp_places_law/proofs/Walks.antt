@@ -102,7 +102,7 @@ by_place t ns n d w = elim w as (λ c. Placement) [
   | CloseThenDial k ↦ record { state = t; pause = WaitsDrop k d }
 ]
 
-abbrev by_one : State → List ℕ → ℕ → Option Exchange → Placement
+abbrev pub by_one : State → List ℕ → ℕ → Option Exchange → Placement
 by_one t ns n o = elim o as (λ c. Placement) [ None ↦ place_each ns t | Some d ↦ by_place t ns n d (place_for t d) ]
 
 skipped : (t : State) (e : Exchange) (ns : List ℕ) → exchange t e.number ≡ Some e → has_none e ≡ false → place_each (e.number ∷ ns) t ≡ place_each ns t

@@ -42,12 +42,22 @@ over_in p peers = over_clients p ++ over_peers p.is_stopped peers
 abbrev pub sides_left : Turn → List Peer → Sides
 sides_left p peers = record { parts = record (parts p) { seats = seats_left p }; peers = filter (goes_on p.is_stopped) peers }
 
+-- connections are closed still, neither settings nor clock changed, and no number was given
+pub record StaysOn (s t : State) : Type 0 where
+  pub connecting : IsConnecting t
+  pub settings : t.settings ≡ s.settings
+  pub clock : t.clock ≡ s.clock
+  pub ticked : t.is_ticked ≡ s.is_ticked
+  pub stopped : t.is_stopped ≡ s.is_stopped
+  pub top : t.top ≡ s.top
+
 -- the happenings may come, and lead to a state in which nobody is left to be closed
 pub record AreShut (number : ℕ → ℕ) (p : Turn) (peers : List Peer) (log : Log) (s : State) : Type 0 where
   pub state : State
   pub leads : Leads log s state
   pub shows : ShowsSides number p.name.items (sides_left p peers) state
   pub closed : has_closings state ≡ false
+  pub stays : StaysOn s state
 
 -- before Stop. Those who are looked at are known from wait to wait (Firsts.`AreAwake` of `pp_turns_law`); each client and each connection that
 -- is there is open, from one opening, dial and closing to the next

@@ -4,7 +4,7 @@ use Rattle.std.specs.Prelude.{◌≡◌, ◌⊎◌, ℕ, zero, suc, true, [], �
 use Rattle.pp_desk.specs.Shutting.{closings}
 use Rattle.pp_flow.specs.Changes.{entry_of}
 use Rattle.pp_law.specs.Connections.{WaitsDial, WaitsDrop, exchange, place_for, placing, put_on}
-use Rattle.pp_law.specs.Phases.{is_placed}
+use Rattle.pp_law.specs.Phases.{is_done, is_placed, next}
 use Rattle.pp_law.specs.State.{State, Exchange}
 use Rattle.pp_obeys.specs.Moves.{AreCalm, Leads}
 use Rattle.pp_peers.specs.declared.placing.Placed.TheVariants.{On}
@@ -62,11 +62,13 @@ Reaches zero m after x log y = (log ≡ []) × (y ≡ x)
 Reaches (suc more) m after x log y =
     (number : ℕ) × (next : Around) × (first : Log) × (rest : Log) × (next_waiting after x.sides ≡ Some number) × (log ≡ first ++ rest) × IsPlaced m number x first next × Reaches more m (goes_on_behind (place_in_turn m.limits number x.sides) number) next rest y
 
--- each has its place, or none to go to: the law goes on where the program does
+-- each has its place, or none to go to: the law goes on where the program does, to the phase behind this one
 pub record HavePlaces (number : ℕ → ℕ) (p : Turn) (y : Around) (s : State) : Type 0 where
   pub placed : is_placed (placing s).pause ≡ true
   pub shows : ShowsAround number p y (placing s).state
   pub may : MayPlace s
+  pub done : is_done s ≡ true
+  pub behind : ShowsAround number p y (next s)
 
 -- the happenings may come, one behind the other, and lead there, unless so many did not do
 pub record AreLed (number : ℕ → ℕ) (p : Turn) (more : ℕ) (x : Around) (log : Log) (y : Around) (s : State) : Type 0 where
