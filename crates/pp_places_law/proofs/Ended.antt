@@ -22,17 +22,17 @@ put_in n k phase s = refl
 
 each_in : (ns : List ℕ) (phase : Phase) (s : State) → (place_each ns (in_phase phase s)).state ≡ in_phase phase (place_each ns s).state
 each_in [] phase s = refl
-each_in (n ∷ ns) phase s = by (option_and_then if_unplaced (exchange s n))
+each_in (n ∷ ns) phase s = by (option_and_then if_unplaced (exchange s n)) (λ t. each_in ns phase t)
   where
-    at : (e : Exchange) (w : Placed) → (by_place (in_phase phase s) ns n e w).state ≡ in_phase phase (by_place s ns n e w).state
-    at e (On k) = ap (λ (t : State). (place_each ns t).state) (put_in n k phase s) ∙ each_in ns phase (put_on n k s)
-    at e Wait = each_in ns phase s
-    at e Dial = refl
-    at e (CloseThenDial k) = refl
+    at : (e : Exchange) (w : Placed) → ((t : State) → (place_each ns (in_phase phase t)).state ≡ in_phase phase (place_each ns t).state) → (by_place (in_phase phase s) ns n e w).state ≡ in_phase phase (by_place s ns n e w).state
+    at e (On k) rest = ap (λ (t : State). (place_each ns t).state) (put_in n k phase s) ∙ rest (put_on n k s)
+    at e Wait rest = rest s
+    at e Dial rest = refl
+    at e (CloseThenDial k) rest = refl
 
-    by : (o : Option Exchange) → (by_one (in_phase phase s) ns n o).state ≡ in_phase phase (by_one s ns n o).state
-    by None = each_in ns phase s
-    by (Some e) = at e (place_for s e)
+    by : (o : Option Exchange) → ((t : State) → (place_each ns (in_phase phase t)).state ≡ in_phase phase (place_each ns t).state) → (by_one (in_phase phase s) ns n o).state ≡ in_phase phase (by_one s ns n o).state
+    by None rest = rest s
+    by (Some e) rest = at e (place_for s e) rest
 
 around_in : (number : ℕ → ℕ) (p : Turn) (y : Around) (phase : Phase) (t : State) → ShowsAround number p y t → ShowsAround number p y (in_phase phase t)
 around_in number p y phase t shows = record {

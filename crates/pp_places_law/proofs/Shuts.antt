@@ -62,45 +62,42 @@ unfolding changed shut
 goes s n is none = ap (λ (t : State). shut_of n (close_client n false t)) (stays_there s is) ∙ ap (λ (t : State). shut_of n t) (law_none n false s none)
 
 -- what connections and clients do not show stays
-closing_frame : (link : Link) (s : State) → IsConnecting s → frame false (after s (by_side (Some link.1) (Shut link.0) (Dropped link.0))) ≡ frame false s
-closing_frame link s is = by link.1
+client_frame : (n : ℕ) (s : State) → IsConnecting s → frame false (after s (Shut n)) ≡ frame false s
+unfolding changed shut
+client_frame n s is = ap (λ (t : State). frame false (close_client n false t)) (stays_there s is) ∙ frame_of {all = false} (close_client-stays n false s (frame_stays refl))
+
+out_frame : (n : ℕ) (s : State) → frame false (out n s) ≡ frame false s
+unfolding out
+out_frame n s = refl
+
+conn_frame : (n : ℕ) (s : State) → IsConnecting s → frame false (after s (Dropped n)) ≡ frame false s
+unfolding changed dropped
+conn_frame n s is = ap (λ (t : State). frame false (dropped n t)) (stays_there s is) ∙ by (conn s n)
   where
-    of_client : (n : ℕ) → frame false (after s (Shut n)) ≡ frame false s
-    unfolding changed shut
-    of_client n = ap (λ (t : State). frame false (close_client n false t)) (stays_there s is) ∙ frame_of {all = false} (close_client-stays n false s (frame_stays refl))
+    at : (b : Bool) → frame false (elim b as (λ t. State) [ true ↦ out n s | false ↦ out n (placing s).state ]) ≡ frame false s
+    at true = out_frame n s
+    at false = out_frame n (placing s).state ∙ placing-frame false s
 
-    out_frame : (n : ℕ) (t : State) → frame false (out n t) ≡ frame false t
-    unfolding out
-    out_frame n t = refl
+    by : (o : Option Conn) → frame false (elim o as (λ t. State) [ None ↦ s | Some k ↦ elim k.is_closing as (λ t. State) [ true ↦ out n s | false ↦ out n (placing s).state ] ]) ≡ frame false s
+    by None = refl
+    by (Some k) = at k.is_closing
 
-    drops : (n : ℕ) (o : Option Conn) → frame false (elim o as (λ t. State) [ None ↦ s | Some k ↦ elim k.is_closing as (λ t. State) [ true ↦ out n s | false ↦ out n (placing s).state ] ]) ≡ frame false s
-    drops n None = refl
-    drops n (Some k) = at k.is_closing
-      where
-        at : (b : Bool) → frame false (elim b as (λ t. State) [ true ↦ out n s | false ↦ out n (placing s).state ]) ≡ frame false s
-        at true = out_frame n s
-        at false = out_frame n (placing s).state ∙ placing-frame false s
-
-    of_origin : (n : ℕ) → frame false (after s (Dropped n)) ≡ frame false s
-    unfolding changed dropped
-    of_origin n = ap (λ (t : State). frame false (dropped n t)) (stays_there s is) ∙ drops n (conn s n)
-
-    by : (side : Side) → frame false (after s (by_side (Some side) (Shut link.0) (Dropped link.0))) ≡ frame false s
-    by OfClient = of_client link.0
-    by Origin = of_origin link.0
+side_frame : (n : ℕ) (side : Side) (s : State) → IsConnecting s → frame false (after s (by_side (Some side) (Shut n) (Dropped n))) ≡ frame false s
+side_frame n OfClient s is = client_frame n s is
+side_frame n Origin s is = conn_frame n s is
 
 connecting_still : (s t : State) → IsConnecting s → frame false t ≡ frame false s → IsConnecting t
 connecting_still s t is same = record { at = ap (λ (f : Frame). f.phase) same ∙ is.at; none = ap (λ (f : Frame). f.made_room_for) same ∙ is.none }
 
 closings_frame : (ids : List ℕ) (links : List Link) (s : State) → IsConnecting s → frame false (fold after s (closings ids links)) ≡ frame false s
 closings_frame [] links s is = refl
-closings_frame (id ∷ ids) links s is = by (find (is_link id) links)
+closings_frame (id ∷ ids) links s is = by (find (is_link id) links) (λ t at. closings_frame ids (without_link id links) t at)
   where
-    by : (o : Option Link) → frame false (fold after s (closed_as o ++ closings ids (without_link id links))) ≡ frame false s
-    by None = closings_frame ids (without_link id links) s is
-    by (Some link) =
-        let same : frame false (after s (by_side (Some link.1) (Shut link.0) (Dropped link.0))) ≡ frame false s = closing_frame link s is in
-        closings_frame ids (without_link id links) (after s (by_side (Some link.1) (Shut link.0) (Dropped link.0))) (connecting_still s (after s (by_side (Some link.1) (Shut link.0) (Dropped link.0))) is same) ∙ same
+    by : (o : Option Link) → ((t : State) → IsConnecting t → frame false (fold after t (closings ids (without_link id links))) ≡ frame false t) → frame false (fold after s (closed_as o ++ closings ids (without_link id links))) ≡ frame false s
+    by None rest = rest s is
+    by (Some link) rest =
+        let same : frame false (after s (by_side (Some link.1) (Shut link.0) (Dropped link.0))) ≡ frame false s = side_frame link.0 link.1 s is in
+        rest (after s (by_side (Some link.1) (Shut link.0) (Dropped link.0))) (connecting_still s (after s (by_side (Some link.1) (Shut link.0) (Dropped link.0))) is same) ∙ same
 
 stays_on : (s t : State) → IsConnecting s → frame false t ≡ frame false s → StaysOn s t
 stays_on s t is same = record {
@@ -225,7 +222,7 @@ each_shut number name (n ∷ ns) x s shows may once over =
       leads = record { awake = refl; may = λ failed. one.0; holds = rest.leads };
       shows = rest.shows;
       may = rest.may;
-      same = rest.same ∙ closing_frame (n, OfClient) s may.connecting;
+      same = rest.same ∙ client_frame n s may.connecting;
     }
   where
     its : IsOver n x.parts.seats
