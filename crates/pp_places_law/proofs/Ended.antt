@@ -1,5 +1,5 @@
 -- Where each exchange has its place, or none to go to, the law goes on to the next phase, which shows no other.
-use Rattle.std.proofs.Common.{◌≡◌, refl, sym, subst, ap, ap₂, ◌∙◌, ℕ, Bool, true, false, not, ◌&&◌, map, List, [], ◌∷◌, Option, Some, None}
+use Rattle.std.proofs.Common.{◌≡◌, refl, sym, subst, ap, ap₂, ◌∙◌, ℕ, Bool, true, not, ◌&&◌, map, List, [], ◌∷◌, Option, Some, None}
 use Rattle.std.specs.Prelude.{option_and_then}
 use Rattle.pp_flow_law.specs.Tables.{none_leaves}
 use Rattle.pp_law.specs.Connections.{exchange, if_unplaced, on_conn, on_exchange, place_each, place_for, placing, put_on}

@@ -8,6 +8,7 @@ pub mod Dials
 pub mod Ended
 pub mod Loops
 pub mod Shuts
+pub mod Left
 pub mod Askable
 pub mod Still
 pub mod Refused

@@ -34,7 +34,7 @@ closing_is n links there = ap (λ (o : Option Link). closed_as o ++ []) there
 
 -- ---- one is closed
 
-one_linked : (k n : ℕ) (links : List Link) → (n == k) ≡ false → find (is_link n) links ≡ Some (n, Origin) → find (is_link n) (without_link k links) ≡ Some (n, Origin)
+pub one_linked : (k n : ℕ) (links : List Link) → (n == k) ≡ false → find (is_link n) links ≡ Some (n, Origin) → find (is_link n) (without_link k links) ≡ Some (n, Origin)
 one_linked k n links off there = find_kept (is_link n) (is_other k) links (λ link is. ap not (ap (λ (i : ℕ). i == k) (same_number link.0 n is) ∙ off)) ∙ there
 
 none_linked : (k : ℕ) (ps : List Peer) (links : List Link) → count_by (is_number k) ps ≡ 0 → AreLinked (peer_numbers ps) links → AreLinked (peer_numbers ps) (without_link k links)

@@ -3,8 +3,8 @@
 use Rattle.std.specs.Prelude.{◌≡◌, ℕ, true, false, List, [], ◌∷◌, ◌++◌, filter, find, Some, None, ⊤}
 use Rattle.pp_closings_law.specs.Log.{AreLinked, IsConnecting}
 use Rattle.pp_closings_law.specs.Sides.{ShowsSides}
-use Rattle.pp_desk.specs.Closings.{Sides}
-use Rattle.pp_desk.specs.Shutting.{closings, over_clients, over_peers, seats_left}
+use Rattle.pp_desk.specs.Closings.{Sides, peer_numbers}
+use Rattle.pp_desk.specs.Shutting.{closings, over_clients, over_peers, seats_left, without_all}
 use Rattle.pp_law.specs.Closing.{is_of}
 use Rattle.pp_law.specs.Connections.{client}
 use Rattle.pp_law.specs.Phases.{has_closings}
@@ -64,3 +64,8 @@ pub record AreShut (number : ℕ → ℕ) (p : Turn) (peers : List Peer) (log : 
 abbrev pub ClosingsAreTheLaws : Type 0
 ClosingsAreTheLaws = (number : ℕ → ℕ) (p : Turn) (peers : List Peer) (s : State) (links : List Link) → ShowsSides number p.name.items (sides_of p peers) s → AreAwake p → p.is_stopped ≡ false → MayShut s
     → AreOpen (over_clients p) links → AreLinked (over_peers false peers) links → AreShut number p peers (closings (over_in p peers) links) s
+
+-- and whoever is left of connections to origins is open still
+abbrev pub LinksAreLeft : Type 0
+LinksAreLeft = (number : ℕ → ℕ) (p : Turn) (peers : List Peer) (s : State) (links : List Link) → ShowsSides number p.name.items (sides_of p peers) s → p.is_stopped ≡ false → AreOpen (over_clients p) links → AreLinked (peer_numbers peers) links
+    → AreLinked (peer_numbers (filter (goes_on p.is_stopped) peers)) (without_all (over_in p peers) links)
