@@ -1,0 +1,15 @@
+pub mod Fits
+pub mod Links
+pub mod Entries
+pub mod Walks
+pub mod Ways
+pub mod Puts
+pub mod Dials
+pub mod Ended
+pub mod Loops
+pub mod Shuts
+pub mod Left
+pub mod Askable
+pub mod Still
+pub mod Refused
+pub mod Answered

@@ -1,0 +1,4 @@
+pub mod Around
+pub mod Closings
+pub mod Places
+pub mod Refusals
