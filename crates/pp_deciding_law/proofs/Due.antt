@@ -1,0 +1,150 @@
+-- The client to whom a decision is due goes on, and no reply of it has begun.
+use Rattle.std.proofs.Common.{◌≡◌, ◌⊎◌, ◌≤◌, ◌<◌, inl, inr, refl, sym, subst, ap, ap₂, ◌∙◌, ℕ, ◌+◌, Bool, true, false, ◌&&◌, ◌||◌, not, cond, find, List, [], ◌∷◌, Option, Some, None, option_map, arith}
+use Rattle.std.specs.Prelude.{count_by, is_ok, is_some}
+use Rattle.pp_cache_law.proofs.Numbers.{same_test, some_is}
+use Rattle.pp_cache_law.proofs.PairLemmas.{count_first}
+use Rattle.pp_law.specs.Connections.{client, is_client}
+use Rattle.pp_law.specs.Due.{Due, Decide, CutOff, cut_in, due_by_stage, due_cut, due_decision, due_of, due_reply, first_due, give_up, has_lost_row, is_told}
+use Rattle.pp_law.specs.Decisions.{decide}
+use Rattle.pp_law.specs.Lists.{first_some, is_some_with}
+use Rattle.pp_law.specs.Opening.{is_at}
+use Rattle.pp_law.specs.Phases.{decides}
+use Rattle.pp_law.specs.Requests.{Front, Parsed, NoHeadYet, NoHead, IsRequest, expects_interim, parsed_in}
+use Rattle.pp_law.specs.Sharing.{due_undecided}
+use Rattle.pp_law.specs.Stages.{is_begun, is_undecided, reply_of}
+use Rattle.pp_law.specs.State.{State, Client, Reply, Stage, Undecided, Waiting, Passing, Answering, Deciding, DecidingAgain, Evicting, Phase}
+use Rattle.pp_obeys.proofs.Come.{place_of, same_phase}
+use Rattle.pp_obeys.proofs.TurnHappenings.{decides_again, decides_due}
+use Rattle.pp_seats.specs.Decided.{expects_in}
+use Rattle.pp_seats.specs.Dues.{refused_for, refused_in}
+use Rattle.pp_seats.specs.Heads.{asked_in}
+use Rattle.pp_seats.specs.declared.front.Asked.{Asked}
+use Rattle.pp_seats.specs.declared.front.Front.{Front as SeatFront}
+use Rattle.pp_seats.specs.declared.front.Front.TheVariants.{NoHeadYet as NoneYet, NoHead as NoneThere, Request as IsThere}
+use Rattle.pp_seats.specs.declared.key.Key.{Key as OwnedKey}
+use Rattle.pp_seats_law.specs.Decided.{expects_of}
+use Rattle.pp_seats_law.specs.Fronts.{ShowsFront}
+use Rattle.pp_world.specs.declared.note.Cause.{Cause}
+use Rattle.pp_world.specs.declared.note.Decision.{Decision}
+
+-- ---- what is due first is due to the client that it names
+
+abbrev pub due_by : ℕ → ℕ → Option Cause → Option Decision → Option Due
+due_by n i cut decision = elim cut [ Some cause ↦ Some (CutOff n cause) | None ↦ elim decision [ Some d ↦ Some (Decide n i d) | None ↦ None ] ]
+
+names_of : (s : State) (c : Client) (n i : ℕ) (d : Decision) → due_of s c ≡ Some (Decide n i d) → c.number ≡ n
+names_of s c n i d = by (due_cut s c) (due_decision s c)
+  where
+    by : (o : Option Cause) (p : Option Decision) → due_by c.number c.index o p ≡ Some (Decide n i d) → c.number ≡ n
+    by (Some cause) p at = absurd (cc at)
+    by None None at = absurd (cc at)
+    by None (Some e) at = let same : Decide c.number c.index e ≡ Decide n i d = some_is (Decide c.number c.index e) (Decide n i d) at in cc same
+
+its_number : (c : Client) (n : ℕ) → c.number ≡ n → is_client n c ≡ true
+its_number c n is = same_test c.number n is
+
+count_one : (s : State) (cs : List Client) (n i : ℕ) (d : Decision) → first_some (due_of s) cs ≡ Some (Decide n i d) → 1 ≤ count_by (is_client n) cs
+count_one s [] n i d is = absurd (cc is)
+count_one s (c ∷ cs) n i d is = by (due_of s c) (is_client n c) refl refl is (count_one s cs n i d)
+  where
+    by : (o : Option Due) (b : Bool) → due_of s c ≡ o → is_client n c ≡ b → (elim o as (λ x. Option Due) [ Some y ↦ Some y | None ↦ first_some (due_of s) cs ]) ≡ Some (Decide n i d)
+        → (first_some (due_of s) cs ≡ Some (Decide n i d) → 1 ≤ count_by (is_client n) cs) → 1 ≤ count_by (is_client n) (c ∷ cs)
+    by o true due here at rest = subst (λ (k : ℕ). 1 ≤ k) (sym (count_first (is_client n) c cs ∙ ap (λ (b : Bool). cond b 1 0 + count_by (is_client n) cs) here)) (omega arith)
+    by (Some y) false due here at rest = absurd (cc (sym here ∙ its_number c n (names_of s c n i d (due ∙ at))))
+    by None false due here at rest = subst (λ (k : ℕ). 1 ≤ k) (sym (count_first (is_client n) c cs ∙ ap (λ (b : Bool). cond b 1 0 + count_by (is_client n) cs) here)) (omega (arith, rest at))
+
+-- numbers are distinct
+pub its_due : (s : State) (cs : List Client) (n i : ℕ) (d : Decision) (c : Client) → first_some (due_of s) cs ≡ Some (Decide n i d) → find (is_client n) cs ≡ Some c → count_by (is_client n) cs ≤ 1 → due_of s c ≡ Some (Decide n i d)
+its_due s [] n i d c first found few = absurd (cc found)
+its_due s (e ∷ es) n i d c first found few = by (due_of s e) (is_client n e) refl refl first found (its_due s es n i d c)
+  where
+    counted : (b : Bool) → is_client n e ≡ b → cond b 1 0 + count_by (is_client n) es ≤ 1
+    counted b here = subst (λ (k : ℕ). k ≤ 1) (count_first (is_client n) e es ∙ ap (λ (t : Bool). cond t 1 0 + count_by (is_client n) es) here) few
+
+    by : (o : Option Due) (b : Bool) → due_of s e ≡ o → is_client n e ≡ b → (elim o as (λ x. Option Due) [ Some y ↦ Some y | None ↦ first_some (due_of s) es ]) ≡ Some (Decide n i d) → cond b (Some e) (find (is_client n) es) ≡ Some c
+        → (first_some (due_of s) es ≡ Some (Decide n i d) → find (is_client n) es ≡ Some c → count_by (is_client n) es ≤ 1 → due_of s c ≡ Some (Decide n i d)) → due_of s c ≡ Some (Decide n i d)
+    by (Some y) true due here at there rest = ap (due_of s) (sym (some_is e c there)) ∙ due ∙ at
+    by (Some y) false due here at there rest = absurd (cc (sym here ∙ its_number e n (names_of s e n i d (due ∙ at))))
+    by None true due here at there rest = absurd (omega (arith, counted true here, count_one s es n i d at))
+    by None false due here at there rest = rest at there (omega (arith, counted false here))
+
+-- ---- it goes on, and no reply has begun
+
+pub record IsUnbegun (s : State) (c : Client) (d : Decision) : Type 0 where
+  pub going : c.is_closing ≡ false
+  pub due : due_by_stage s c ≡ Some d
+
+abbrev decision_at : State → Client → Bool → Option Decision
+decision_at s c closing = elim (closing || s.is_stopped) [ true ↦ None | false ↦ due_by_stage s c ]
+
+pub unbegun_by : (s : State) (c : Client) (n i : ℕ) (d : Decision) → due_of s c ≡ Some (Decide n i d) → IsUnbegun s c d
+unbegun_by s c n i d = by_closing c.is_closing refl (due_cut s c)
+  where
+    by_stage : (o : Option Decision) → due_by_stage s c ≡ o → c.is_closing ≡ false → due_by c.number c.index None o ≡ Some (Decide n i d) → IsUnbegun s c d
+    by_stage None is going at = absurd (cc at)
+    by_stage (Some e) is going at =
+        let same : Decide c.number c.index e ≡ Decide n i d = some_is (Decide c.number c.index e) (Decide n i d) at in
+        let decided : e ≡ d = cc same in
+        record { going = going; due = is ∙ ap (λ (x : Decision). Some x) decided }
+
+    by_stopped : (b : Bool) → c.is_closing ≡ false → due_by c.number c.index None (elim b as (λ t. Option Decision) [ true ↦ None | false ↦ due_by_stage s c ]) ≡ Some (Decide n i d) → IsUnbegun s c d
+    by_stopped true going at = absurd (cc at)
+    by_stopped false going at = by_stage (due_by_stage s c) refl going at
+
+    by_closing : (b : Bool) → c.is_closing ≡ b → (o : Option Cause) → due_by c.number c.index o (decision_at s c b) ≡ Some (Decide n i d) → IsUnbegun s c d
+    by_closing b is (Some cause) at = absurd (cc at)
+    by_closing true is None at = absurd (cc at)
+    by_closing false is None at = by_stopped s.is_stopped is at
+
+pub not_begun : (s : State) (c : Client) (d : Decision) → due_by_stage s c ≡ Some d → is_begun c ≡ false
+not_begun s c d = by c.stage
+  where
+    reply_by : (r : Reply) (b : Bool) → r.has_begun ≡ b → (elim b as (λ t. Option Decision) [ true ↦ None | false ↦ give_up c.course (elim (has_lost_row s r) as (λ t. Option Decision) [ true ↦ decide s c | false ↦ None ]) ]) ≡ Some d → r.has_begun ≡ false
+    reply_by r true is due = absurd (cc due)
+    reply_by r false is due = is
+
+    by : (stage : Stage)
+        → (elim stage as (λ t. Option Decision) [
+          | Undecided ↦ due_undecided s c
+          | Waiting ↦ give_up c.course (elim (is_told c.brought) as (λ t. Option Decision) [ true ↦ decide s c | false ↦ None ])
+          | Passing ↦ give_up c.course None
+          | Answering r ↦ due_reply s c r
+        ]) ≡ Some d → is_some_with (λ (r : Reply). r.has_begun) (elim stage as (λ t. Option Reply) [ Undecided ↦ None | Waiting ↦ None | Passing ↦ None | Answering r ↦ Some r ]) ≡ false
+    by Undecided due = refl
+    by Waiting due = refl
+    by Passing due = refl
+    by (Answering r) due = reply_by r r.has_begun refl due
+
+-- ---- the interim answer is expected as the law has it, unless memory was refused for its key
+
+asked_expects : (a : Asked) (r : Parsed) → ShowsFront (IsThere a) (IsRequest r) → (refused_for a.refusal a.key ≡ Some 500 → ⊥) → a.expects_interim ≡ expects_interim r
+asked_expects a r shows given = by shows.expects
+  where
+    by : ((is_ok r.key ≡ false) × (a.refusal ≡ Some 500)) ⊎ (a.expects_interim ≡ expects_interim r) → a.expects_interim ≡ expects_interim r
+    by (inl refused) = absurd (given (ap (λ (o : Option ℕ). refused_for o a.key) refused.1))
+    by (inr is) = is
+
+pub expected : (front : SeatFront) (other : Front) → ShowsFront front other → (refused_in front ≡ Some 500 → ⊥) → expects_in (asked_in front) ≡ expects_of other
+expected NoneYet NoHeadYet shows given = refl
+expected (NoneThere status) (NoHead other) shows given = refl
+expected (IsThere a) (IsRequest r) shows given = asked_expects a r shows given
+expected front other shows given = absurd shows
+
+-- ---- decisions are next
+
+is_phase : (p : Phase) (s : State) → is_at p s ≡ true → s.phase ≡ p
+is_phase p s at = sym (same_phase p s.phase at)
+
+pub deciding_by : (s : State) (d : Due) → (is_at Deciding s || is_at DecidingAgain s) ≡ true → first_due s ≡ Some d → decides s ≡ true
+deciding_by s d at first = by (is_at Deciding s) refl at
+  where
+    by : (b : Bool) → is_at Deciding s ≡ b → (b || is_at DecidingAgain s) ≡ true → decides s ≡ true
+    by true here any = decides_due s d (is_phase Deciding s here) first
+    by false here any = decides_again s (is_phase DecidingAgain s any)
+
+pub past_rows : (s : State) → (is_at Deciding s || is_at DecidingAgain s) ≡ true → place_of Evicting < place_of s.phase
+past_rows s at = by (is_at Deciding s) refl at
+  where
+    by : (b : Bool) → is_at Deciding s ≡ b → (b || is_at DecidingAgain s) ≡ true → place_of Evicting < place_of s.phase
+    by true here any = subst (λ (p : Phase). place_of Evicting < place_of p) (sym (is_phase Deciding s here)) (omega arith)
+    by false here any = subst (λ (p : Phase). place_of Evicting < place_of p) (sym (is_phase DecidingAgain s any)) (omega arith)

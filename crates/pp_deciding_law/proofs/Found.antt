@@ -1,0 +1,62 @@
+-- What is looked for changes what is in memory alone; so where nothing is found, all stands as before.
+use Rattle.std.proofs.Common.{◌≡◌, refl, sym, subst, ap, ◌∙◌, ℕ, Bool, true, false, List, [], ◌∷◌, Option, Some, None}
+use Rattle.pp_due.specs.Due.{due_at}
+use Rattle.pp_due.specs.Entering.{is_due_at, key_at}
+use Rattle.pp_flow_law.specs.Tables.{none_leaves}
+use Rattle.pp_law.specs.Lists.{Bytes}
+use Rattle.pp_law.specs.State.{State}
+use Rattle.pp_peers.specs.declared.peers.Peer.{Peer}
+use Rattle.pp_seats.specs.declared.due.Due.{Due as SeatDue}
+use Rattle.pp_state.specs.declared.state.State.{State as Turn}
+use Rattle.pp_store.specs.Kept.{KeptMap}
+use Rattle.pp_turns_law.proofs.First.{first_dues}
+use Rattle.pp_turns_law.specs.Firsts.{AreAwake, FirstDueInMemory, HasRowInMemory, IsAsleep, IsDueInMemory, IsFirst}
+use Rattle.pp_deciding_law.specs.Stands.{NoneIsNext, NoneIsTheLaws, StandsToDecide}
+
+-- ---- all but what is in memory stays
+
+abbrev pub IsButForMemory : Turn → Turn → Type 0
+IsButForMemory p q = record q { cache = p.cache } ≡ p
+
+row_keeps : (shelf : KeptMap) (o : Option Bytes) (p q : Turn) → HasRowInMemory shelf o p q → IsButForMemory p q
+row_keeps shelf None p q same = ap (λ (r : Turn). record r { cache = p.cache }) same
+row_keeps shelf (Some key) p q comes = comes.rest
+
+due_keeps : (shelf : KeptMap) (i : ℕ) (p q : Turn) (due : Option SeatDue) → IsDueInMemory shelf i p q due → IsButForMemory p q
+due_keeps shelf i p q due its = by (is_due_at shelf i p) its
+  where
+    by : (b : Bool) → (elim b as (λ c. Type 0) [ true ↦ HasRowInMemory shelf (key_at i p) p q × (due ≡ due_at i q) | false ↦ (q ≡ p) × (due ≡ None) ]) → IsButForMemory p q
+    by true here = row_keeps shelf (key_at i p) p q here.0
+    by false here = ap (λ (r : Turn). record r { cache = p.cache }) here.0
+
+both_keep : (p q r : Turn) → IsButForMemory p q → IsButForMemory q r → IsButForMemory p r
+both_keep p q r one two = ap (λ (t : Turn). record t { cache = p.cache }) two ∙ one
+
+pub first_keeps : (shelf : KeptMap) (places : List ℕ) (p q : Turn) (found : Option (ℕ × SeatDue)) → FirstDueInMemory shelf places p q found → IsButForMemory p q
+unfolding FirstDueInMemory
+first_keeps shelf [] p q found first = ap (λ (r : Turn). record r { cache = p.cache }) first.0
+first_keeps shelf (i ∷ places) p q found (now, due, its, rest) = by due rest
+  where
+    by : (o : Option SeatDue) → (elim o as (λ c. Type 0) [ Some d ↦ (q ≡ now) × (found ≡ Some (i, d)) | None ↦ FirstDueInMemory shelf places now q found ]) → IsButForMemory p q
+    by (Some d) here = ap (λ (r : Turn). record r { cache = p.cache }) here.0 ∙ due_keeps shelf i p now due its
+    by None more = both_keep p now q (due_keeps shelf i p now due its) (first_keeps shelf places now q found more)
+
+-- who is not looked at is asleep still
+pub awake_on : (p q : Turn) → IsButForMemory p q → AreAwake p → AreAwake q
+awake_on p q same awake =
+    let a : AreAwake (record q { cache = p.cache }) = subst (λ (r : Turn). AreAwake r) (sym same) awake in
+    record {
+      order = a.order;
+      others = λ i seat here isnt. let one : IsAsleep (record q { cache = p.cache }) seat = a.others i seat here isnt in record { silent = one.silent; ticked = one.ticked };
+    }
+
+-- ---- nothing is found
+
+pub none_next : NoneIsTheLaws
+none_next number peers shelf p q s stands first =
+    let its : IsFirst none_leaves peers shelf p q s None = first_dues number none_leaves peers shelf p q s None stands.shows stands.kept stands.awake first in
+    record {
+      number = its.number;
+      stands = record { deciding = stands.deciding; shows = its.shows; kept = stands.kept; awake = awake_on p q (first_keeps shelf p.awake.items p q None first) stands.awake };
+      none = sym its.due;
+    }

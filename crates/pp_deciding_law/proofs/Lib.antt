@@ -1,0 +1,4 @@
+pub mod Due
+pub mod Framed
+pub mod Found
+pub mod Leads

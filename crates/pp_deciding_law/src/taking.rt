@@ -1,0 +1,7 @@
+// A decision is found, and taken.
+ghost use Rattle.pp_deciding_law.specs.Takes.{DecisionsLead};
+
+/// Its notes are permitted, and lead where the law leads.
+pub fn decisions_lead_as_by_the_law()
+    ensures leads { DecisionsLead }
+{}
