@@ -32,40 +32,44 @@ use Rattle.pp_world.specs.declared.note.Decision.{Decision}
 abbrev pub due_by : ℕ → ℕ → Option Cause → Option Decision → Option Due
 due_by n i cut decision = elim cut [ Some cause ↦ Some (CutOff n cause) | None ↦ elim decision [ Some d ↦ Some (Decide n i d) | None ↦ None ] ]
 
-names_of : (s : State) (c : Client) (n i : ℕ) (d : Decision) → due_of s c ≡ Some (Decide n i d) → c.number ≡ n
-names_of s c n i d = by (due_cut s c) (due_decision s c)
+abbrev pub named_by : Due → ℕ
+named_by (Decide n i d) = n
+named_by (CutOff n cause) = n
+
+names_of : (s : State) (c : Client) (y : Due) → due_of s c ≡ Some y → c.number ≡ named_by y
+names_of s c y = by (due_cut s c) (due_decision s c)
   where
-    by : (o : Option Cause) (p : Option Decision) → due_by c.number c.index o p ≡ Some (Decide n i d) → c.number ≡ n
-    by (Some cause) p at = absurd (cc at)
+    by : (o : Option Cause) (p : Option Decision) → due_by c.number c.index o p ≡ Some y → c.number ≡ named_by y
+    by (Some cause) p at = ap named_by (some_is (CutOff c.number cause) y at)
     by None None at = absurd (cc at)
-    by None (Some e) at = let same : Decide c.number c.index e ≡ Decide n i d = some_is (Decide c.number c.index e) (Decide n i d) at in cc same
+    by None (Some d) at = ap named_by (some_is (Decide c.number c.index d) y at)
 
 its_number : (c : Client) (n : ℕ) → c.number ≡ n → is_client n c ≡ true
 its_number c n is = same_test c.number n is
 
-count_one : (s : State) (cs : List Client) (n i : ℕ) (d : Decision) → first_some (due_of s) cs ≡ Some (Decide n i d) → 1 ≤ count_by (is_client n) cs
-count_one s [] n i d is = absurd (cc is)
-count_one s (c ∷ cs) n i d is = by (due_of s c) (is_client n c) refl refl is (count_one s cs n i d)
+count_one : (s : State) (cs : List Client) (y : Due) → first_some (due_of s) cs ≡ Some y → 1 ≤ count_by (is_client (named_by y)) cs
+count_one s [] y is = absurd (cc is)
+count_one s (c ∷ cs) y is = by (due_of s c) (is_client (named_by y) c) refl refl is (count_one s cs y)
   where
-    by : (o : Option Due) (b : Bool) → due_of s c ≡ o → is_client n c ≡ b → (elim o as (λ x. Option Due) [ Some y ↦ Some y | None ↦ first_some (due_of s) cs ]) ≡ Some (Decide n i d)
-        → (first_some (due_of s) cs ≡ Some (Decide n i d) → 1 ≤ count_by (is_client n) cs) → 1 ≤ count_by (is_client n) (c ∷ cs)
-    by o true due here at rest = subst (λ (k : ℕ). 1 ≤ k) (sym (count_first (is_client n) c cs ∙ ap (λ (b : Bool). cond b 1 0 + count_by (is_client n) cs) here)) (omega arith)
-    by (Some y) false due here at rest = absurd (cc (sym here ∙ its_number c n (names_of s c n i d (due ∙ at))))
-    by None false due here at rest = subst (λ (k : ℕ). 1 ≤ k) (sym (count_first (is_client n) c cs ∙ ap (λ (b : Bool). cond b 1 0 + count_by (is_client n) cs) here)) (omega (arith, rest at))
+    by : (o : Option Due) (b : Bool) → due_of s c ≡ o → is_client (named_by y) c ≡ b → (elim o as (λ x. Option Due) [ Some z ↦ Some z | None ↦ first_some (due_of s) cs ]) ≡ Some y
+        → (first_some (due_of s) cs ≡ Some y → 1 ≤ count_by (is_client (named_by y)) cs) → 1 ≤ count_by (is_client (named_by y)) (c ∷ cs)
+    by o true due here at rest = subst (λ (k : ℕ). 1 ≤ k) (sym (count_first (is_client (named_by y)) c cs ∙ ap (λ (b : Bool). cond b 1 0 + count_by (is_client (named_by y)) cs) here)) (omega arith)
+    by (Some z) false due here at rest = absurd (cc (sym here ∙ its_number c (named_by y) (names_of s c y (due ∙ at))))
+    by None false due here at rest = subst (λ (k : ℕ). 1 ≤ k) (sym (count_first (is_client (named_by y)) c cs ∙ ap (λ (b : Bool). cond b 1 0 + count_by (is_client (named_by y)) cs) here)) (omega (arith, rest at))
 
 -- numbers are distinct
-pub its_due : (s : State) (cs : List Client) (n i : ℕ) (d : Decision) (c : Client) → first_some (due_of s) cs ≡ Some (Decide n i d) → find (is_client n) cs ≡ Some c → count_by (is_client n) cs ≤ 1 → due_of s c ≡ Some (Decide n i d)
-its_due s [] n i d c first found few = absurd (cc found)
-its_due s (e ∷ es) n i d c first found few = by (due_of s e) (is_client n e) refl refl first found (its_due s es n i d c)
+pub its_due : (s : State) (cs : List Client) (y : Due) (c : Client) → first_some (due_of s) cs ≡ Some y → find (is_client (named_by y)) cs ≡ Some c → count_by (is_client (named_by y)) cs ≤ 1 → due_of s c ≡ Some y
+its_due s [] y c first found few = absurd (cc found)
+its_due s (e ∷ es) y c first found few = by (due_of s e) (is_client (named_by y) e) refl refl first found (its_due s es y c)
   where
-    counted : (b : Bool) → is_client n e ≡ b → cond b 1 0 + count_by (is_client n) es ≤ 1
-    counted b here = subst (λ (k : ℕ). k ≤ 1) (count_first (is_client n) e es ∙ ap (λ (t : Bool). cond t 1 0 + count_by (is_client n) es) here) few
+    counted : (b : Bool) → is_client (named_by y) e ≡ b → cond b 1 0 + count_by (is_client (named_by y)) es ≤ 1
+    counted b here = subst (λ (k : ℕ). k ≤ 1) (count_first (is_client (named_by y)) e es ∙ ap (λ (t : Bool). cond t 1 0 + count_by (is_client (named_by y)) es) here) few
 
-    by : (o : Option Due) (b : Bool) → due_of s e ≡ o → is_client n e ≡ b → (elim o as (λ x. Option Due) [ Some y ↦ Some y | None ↦ first_some (due_of s) es ]) ≡ Some (Decide n i d) → cond b (Some e) (find (is_client n) es) ≡ Some c
-        → (first_some (due_of s) es ≡ Some (Decide n i d) → find (is_client n) es ≡ Some c → count_by (is_client n) es ≤ 1 → due_of s c ≡ Some (Decide n i d)) → due_of s c ≡ Some (Decide n i d)
-    by (Some y) true due here at there rest = ap (due_of s) (sym (some_is e c there)) ∙ due ∙ at
-    by (Some y) false due here at there rest = absurd (cc (sym here ∙ its_number e n (names_of s e n i d (due ∙ at))))
-    by None true due here at there rest = absurd (omega (arith, counted true here, count_one s es n i d at))
+    by : (o : Option Due) (b : Bool) → due_of s e ≡ o → is_client (named_by y) e ≡ b → (elim o as (λ x. Option Due) [ Some z ↦ Some z | None ↦ first_some (due_of s) es ]) ≡ Some y → cond b (Some e) (find (is_client (named_by y)) es) ≡ Some c
+        → (first_some (due_of s) es ≡ Some y → find (is_client (named_by y)) es ≡ Some c → count_by (is_client (named_by y)) es ≤ 1 → due_of s c ≡ Some y) → due_of s c ≡ Some y
+    by (Some z) true due here at there rest = ap (due_of s) (sym (some_is e c there)) ∙ due ∙ at
+    by (Some z) false due here at there rest = absurd (cc (sym here ∙ its_number e (named_by y) (names_of s e y (due ∙ at))))
+    by None true due here at there rest = absurd (omega (arith, counted true here, count_one s es y at))
     by None false due here at there rest = rest at there (omega (arith, counted false here))
 
 -- ---- it goes on, and no reply has begun
@@ -114,6 +118,30 @@ not_begun s c d = by c.stage
     by Waiting due = refl
     by Passing due = refl
     by (Answering r) due = reply_by r r.has_begun refl due
+
+-- ---- the client that is to be cut goes on till then
+
+pub record IsCutFor (s : State) (c : Client) (cause : Cause) : Type 0 where
+  pub going : c.is_closing ≡ false
+  pub cut : cut_in s c ≡ Some cause
+
+pub cut_by : (s : State) (c : Client) (n : ℕ) (cause : Cause) → due_of s c ≡ Some (CutOff n cause) → IsCutFor s c cause
+cut_by s c n cause = by_closing c.is_closing refl
+  where
+    by_decision : (o : Option Decision) → due_by c.number c.index None o ≡ Some (CutOff n cause) → IsCutFor s c cause
+    by_decision None at = absurd (cc at)
+    by_decision (Some d) at = absurd (cc at)
+
+    by_cut : (o : Option Cause) → cut_in s c ≡ o → c.is_closing ≡ false → due_by c.number c.index o (due_decision s c) ≡ Some (CutOff n cause) → IsCutFor s c cause
+    by_cut None is going at = by_decision (due_decision s c) at
+    by_cut (Some other) is going at =
+        let same : CutOff c.number other ≡ CutOff n cause = some_is (CutOff c.number other) (CutOff n cause) at in
+        let one : other ≡ cause = cc same in
+        record { going = going; cut = is ∙ ap (λ (x : Cause). Some x) one }
+
+    by_closing : (b : Bool) → c.is_closing ≡ b → due_by c.number c.index (elim b as (λ t. Option Cause) [ true ↦ None | false ↦ cut_in s c ]) (due_decision s c) ≡ Some (CutOff n cause) → IsCutFor s c cause
+    by_closing true is at = by_decision (due_decision s c) at
+    by_closing false is at = by_cut (cut_in s c) refl is at
 
 -- ---- the interim answer is expected as the law has it, unless memory was refused for its key
 

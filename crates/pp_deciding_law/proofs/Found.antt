@@ -1,17 +1,26 @@
 -- What is looked for changes what is in memory alone; so where nothing is found, all stands as before.
-use Rattle.std.proofs.Common.{◌≡◌, refl, sym, subst, ap, ◌∙◌, ℕ, Bool, true, false, List, [], ◌∷◌, Option, Some, None}
+use Rattle.std.proofs.Common.{◌≡◌, refl, sym, subst, ap, ◌∙◌, ℕ, Bool, true, false, bytes_eq, List, [], ◌∷◌, Option, Some, None}
+use Rattle.std.specs.List.{list_any}
+use Rattle.pp_cache.specs.Memory.{Memory, with_row}
+use Rattle.pp_cache_law.specs.Pairs.{AreBoth}
 use Rattle.pp_due.specs.Due.{due_at}
 use Rattle.pp_due.specs.Entering.{is_due_at, key_at}
+use Rattle.pp_due.specs.OnDisk.{IsBrought, kept_alone, with_kept}
 use Rattle.pp_flow_law.specs.Tables.{none_leaves}
 use Rattle.pp_law.specs.Lists.{Bytes}
-use Rattle.pp_law.specs.State.{State}
+use Rattle.pp_law.specs.State.{State, Entry}
+use Rattle.pp_law.specs.Table.{row_on_disk}
+use Rattle.pp_objects.specs.declared.id.ObjectId.{ObjectId}
 use Rattle.pp_peers.specs.declared.peers.Peer.{Peer}
 use Rattle.pp_seats.specs.declared.due.Due.{Due as SeatDue}
 use Rattle.pp_state.specs.declared.state.State.{State as Turn}
-use Rattle.pp_store.specs.Kept.{KeptMap}
+use Rattle.pp_store.specs.Kept.{Kept, KeptMap, kept_of}
+use Rattle.pp_target.specs.Name.{name_of}
 use Rattle.pp_turns_law.proofs.First.{first_dues}
 use Rattle.pp_turns_law.specs.Firsts.{AreAwake, FirstDueInMemory, HasRowInMemory, IsAsleep, IsDueInMemory, IsFirst}
-use Rattle.pp_deciding_law.specs.Stands.{NoneIsNext, NoneIsTheLaws, StandsToDecide}
+use Rattle.pp_turns_law.specs.Rows.{IsKeptAs}
+use Rattle.pp_deciding_law.proofs.Disk.{shows_disk}
+use Rattle.pp_deciding_law.specs.Stands.{AreKept, NoneIsNext, NoneIsTheLaws, StandsToDecide}
 
 -- ---- all but what is in memory stays
 
@@ -50,13 +59,56 @@ awake_on p q same awake =
       others = λ i seat here isnt. let one : IsAsleep (record q { cache = p.cache }) seat = a.others i seat here isnt in record { silent = one.silent; ticked = one.ticked };
     }
 
+-- ---- which entries are outdated stays, too
+
+entered_keeps : (id : ObjectId) (key : List ℕ) (kept : Kept) (m : Memory) → (with_kept id key kept m).outdated ≡ m.outdated
+unfolding with_row
+entered_keeps id key kept m = refl
+
+brought_keeps : (key : List ℕ) (o : Option Kept) (old new : Memory) → IsBrought key o old new → new.outdated ≡ old.outdated
+brought_keeps key None old new same = ap (λ (m : Memory). m.outdated) same
+brought_keeps key (Some kept) old new enters = ap (λ (m : Memory). m.outdated) enters.entered ∙ entered_keeps enters.id key kept old
+
+row_notes_none : (shelf : KeptMap) (o : Option Bytes) (p q : Turn) → HasRowInMemory shelf o p q → q.cache.outdated ≡ p.cache.outdated
+row_notes_none shelf None p q same = ap (λ (r : Turn). r.cache.outdated) same
+row_notes_none shelf (Some key) p q comes = brought_keeps key (kept_alone key shelf p.cache) p.cache q.cache comes.cache
+
+due_notes_none : (shelf : KeptMap) (i : ℕ) (p q : Turn) (due : Option SeatDue) → IsDueInMemory shelf i p q due → q.cache.outdated ≡ p.cache.outdated
+due_notes_none shelf i p q due its = by (is_due_at shelf i p) its
+  where
+    by : (b : Bool) → (elim b as (λ c. Type 0) [ true ↦ HasRowInMemory shelf (key_at i p) p q × (due ≡ due_at i q) | false ↦ (q ≡ p) × (due ≡ None) ]) → q.cache.outdated ≡ p.cache.outdated
+    by true here = row_notes_none shelf (key_at i p) p q here.0
+    by false here = ap (λ (r : Turn). r.cache.outdated) here.0
+
+pub first_notes_none : (shelf : KeptMap) (places : List ℕ) (p q : Turn) (found : Option (ℕ × SeatDue)) → FirstDueInMemory shelf places p q found → q.cache.outdated ≡ p.cache.outdated
+unfolding FirstDueInMemory
+first_notes_none shelf [] p q found first = ap (λ (r : Turn). r.cache.outdated) first.0
+first_notes_none shelf (i ∷ places) p q found (now, due, its, rest) = by due rest
+  where
+    by : (o : Option SeatDue) → (elim o as (λ c. Type 0) [ Some d ↦ (q ≡ now) × (found ≡ Some (i, d)) | None ↦ FirstDueInMemory shelf places now q found ]) → q.cache.outdated ≡ p.cache.outdated
+    by (Some d) here = ap (λ (r : Turn). r.cache.outdated) here.0 ∙ due_notes_none shelf i p now due its
+    by None more = first_notes_none shelf places now q found more ∙ due_notes_none shelf i p now due its
+
+-- what is kept, and may come in, rests on these
+pub kept_on : (shelf : KeptMap) (m k : Memory) (s t : State) → k.outdated ≡ m.outdated → ((key : Bytes) → row_on_disk t key ≡ row_on_disk s key) → AreKept shelf m s → AreKept shelf k t
+kept_on shelf m k s t noted disk kept key =
+    subst (λ (o : Option Entry). AreBoth IsKeptAs (elim (list_any (bytes_eq (name_of key)) k.outdated) as (λ c. Option Kept) [ true ↦ None | false ↦ kept_of key shelf ]) o) (sym (disk key))
+    (subst (λ (names : List Bytes). AreBoth IsKeptAs (elim (list_any (bytes_eq (name_of key)) names) as (λ c. Option Kept) [ true ↦ None | false ↦ kept_of key shelf ]) (row_on_disk s key)) (sym noted) (kept key))
+
 -- ---- nothing is found
 
 pub none_next : NoneIsTheLaws
-none_next number peers shelf p q s stands first =
-    let its : IsFirst none_leaves peers shelf p q s None = first_dues number none_leaves peers shelf p q s None stands.shows stands.kept stands.awake first in
+none_next number peers shelf p q s stands sound first =
+    let its : IsFirst none_leaves peers shelf p q s None = first_dues number none_leaves peers shelf p q s None (shows_disk number peers shelf p s stands sound) stands.kept stands.awake first in
     record {
       number = its.number;
-      stands = record { deciding = stands.deciding; shows = its.shows; kept = stands.kept; awake = awake_on p q (first_keeps shelf p.awake.items p q None first) stands.awake };
+      stands = record {
+        deciding = stands.deciding;
+        turn = its.shows.turn;
+        disk = kept_on shelf p.cache q.cache s s (first_notes_none shelf p.awake.items p q None first) (λ key. refl) stands.disk;
+        ready = its.shows.ready;
+        kept = stands.kept;
+        awake = awake_on p q (first_keeps shelf p.awake.items p q None first) stands.awake;
+      };
       none = sym its.due;
     }

@@ -7,6 +7,7 @@ use Rattle.pp_cache_law.proofs.Alike.{room_of}
 use Rattle.pp_cache_law.proofs.Numbers.{some_is}
 use Rattle.pp_decides_law.proofs.Comes.{comes, notes}
 use Rattle.pp_decides_law.proofs.Keyed.{keys_same}
+use Rattle.pp_decides_law.proofs.MarkedRow.{for_memory_same}
 use Rattle.pp_decides_law.proofs.Sitting.{is_at, shown_at}
 use Rattle.pp_decides_law.proofs.Stays.{stays_due}
 use Rattle.pp_decides_law.proofs.Taken.{regains, takes}
@@ -43,7 +44,7 @@ use Rattle.pp_seats.specs.declared.seat.Seat.{Seat}
 use Rattle.pp_seats_law.specs.Dues.{due_as}
 use Rattle.pp_seats_law.specs.Seats.{ShowsOpen, ShowsSeat}
 use Rattle.pp_state.specs.Ends.{Parts, parts}
-use Rattle.pp_state.specs.Pins.{idle_row as idle_in, is_for_memory as is_for_memory_in}
+use Rattle.pp_state.specs.Pins.{idle_row as idle_in}
 use Rattle.pp_state.specs.declared.state.State.{State as Turn}
 use Rattle.pp_states_law.specs.Decisions.{AsksOnce}
 use Rattle.pp_steps.specs.Evicting.{given_way, row_in_way, row_notes, unless_own, without_row}
@@ -56,8 +57,8 @@ use Rattle.pp_turns_law.specs.Firsts.{IsFirst, with_row_if}
 use Rattle.pp_turns_law.specs.Rows.{IsReady, ShowsDisk, with_row_of}
 use Rattle.pp_world.specs.declared.happening.Happening.TheVariants.{Noted}
 use Rattle.pp_world.specs.declared.note.Decision.{Decision}
-use Rattle.pp_world.specs.declared.note.Decision.TheVariants.{Refuse, Hit, Part, Head, NotModified, Unsatisfiable, Relay, Validate, Fetch, Pass}
 use Rattle.pp_world.specs.declared.note.Remark.TheVariants.{Forgotten, Taken}
+use Rattle.pp_deciding_law.proofs.Disk.{shows_disk}
 use Rattle.pp_deciding_law.proofs.Due.{IsUnbegun, deciding_by, expected, its_due, not_begun, past_rows, unbegun_by}
 use Rattle.pp_deciding_law.proofs.Framed.{IsBeside, beside_then, forget_beside, row_beside, row_in, rows_in, there_then}
 use Rattle.pp_deciding_law.proofs.Found.{IsButForMemory, first_keeps}
@@ -80,18 +81,6 @@ few_more n few = grind (arith, nat_tests, few)
 or_true : (b : Bool) → (b || true) ≡ true
 or_true true = refl
 or_true false = refl
-
-memory_same : (d : Decision) → is_for_memory_in d ≡ is_for_memory d
-memory_same (Refuse status) = refl
-memory_same (Hit from to) = refl
-memory_same (Part from to) = refl
-memory_same Head = refl
-memory_same NotModified = refl
-memory_same Unsatisfiable = refl
-memory_same Relay = refl
-memory_same Validate = refl
-memory_same Fetch = refl
-memory_same Pass = refl
 
 -- ---- which rows have to leave
 
@@ -122,7 +111,7 @@ module _ (number0 : ℕ → ℕ) (peers : List Peer) (shelf : KeptMap) (i : ℕ)
   u = to_take due s
 
   found : IsFirst none_leaves peers shelf p q s (Some (i, IsDecidedDue due))
-  found = first_dues number0 none_leaves peers shelf p q s (Some (i, IsDecidedDue due)) stands.shows stands.kept stands.awake next.first
+  found = first_dues number0 none_leaves peers shelf p q s (Some (i, IsDecidedDue due)) (shows_disk number0 peers shelf p s stands sound) stands.kept stands.awake next.first
 
   abbrev number : ℕ → ℕ
   number = found.number
@@ -139,7 +128,7 @@ module _ (number0 : ℕ → ℕ) (peers : List Peer) (shelf : KeptMap) (i : ℕ)
   first = sym found.due ∙ ap (λ (o : Option Seat). option_map (λ (x : Seat). due_as x.client.id x.index (IsDecidedDue due)) o) next.here
 
   its : due_of s c ≡ Some (Decide n seat.index due)
-  its = its_due s s.clients n seat.index due c first next.there (sound.apart.clients n)
+  its = its_due s s.clients (Decide n seat.index due) c first next.there (sound.apart.clients n)
 
   open_client : IsUnbegun s c due
   open_client = unbegun_by s c n seat.index due its
@@ -243,7 +232,7 @@ module _ (number0 : ℕ → ℕ) (peers : List Peer) (shelf : KeptMap) (i : ℕ)
   for_memory : is_for_memory due ≡ true → TakesAsTheLaw i due peers q s seat c between
   for_memory memory =
       alone
-      (ap (λ (b : Bool). elim (b || not (nat_lt 1024 (count_by is_row q.cache.instances))) as (λ t. Option Instance) [ true ↦ None | false ↦ option_and_then (unless_own i q) (idle_in q) ]) (memory_same due ∙ memory))
+      (ap (λ (b : Bool). elim (b || not (nat_lt 1024 (count_by is_row q.cache.instances))) as (λ t. Option Instance) [ true ↦ None | false ↦ option_and_then (unless_own i q) (idle_in q) ]) (for_memory_same due ∙ memory))
       (ap (λ (b : Bool). elim (b || not (forgets_next s (first_due s))) as (λ t. State) [ true ↦ s | false ↦ elim (idle_row s) as (λ t. State) [ None ↦ s | Some x ↦ left_for x s ] ]) memory)
       (ap (λ (b : Bool). b || not (is_some_with (has_to_forget s) (client s n))) memory)
       (record { key = λ more. no_row (sym memory ∙ more); kept = λ more. no_row (sym memory ∙ more) })
@@ -289,7 +278,7 @@ module _ (number0 : ℕ → ℕ) (peers : List Peer) (shelf : KeptMap) (i : ℕ)
       bare_way : row_in_way due i q ≡ None
       bare_way =
           ap₂ (λ (x y : Bool). elim (x || not y) as (λ t. Option Instance) [ true ↦ None | false ↦ option_and_then (unless_own i q) (idle_in q) ])
-          (memory_same due ∙ more) (ap (λ (m : ℕ). nat_lt 1024 m) rows_are ∙ few_more (rows s) sound.bounded.rows)
+          (for_memory_same due ∙ more) (ap (λ (m : ℕ). nat_lt 1024 m) rows_are ∙ few_more (rows s) sound.bounded.rows)
 
       bare_kept : (key : OwnedKey) → owned_in (asked_in seat.front) ≡ Some key → row s key.text.items ≡ None → row_on_disk s key.text.items ≡ None
       bare_kept key owned = subst (λ (o : Option Bytes). row (with_row_if o s) key.text.items ≡ None → row_on_disk (with_row_if o s) key.text.items ≡ None) bare (found.has i due seat key refl more next.here owned)
@@ -385,7 +374,7 @@ module _ (number0 : ℕ → ℕ) (peers : List Peer) (shelf : KeptMap) (i : ℕ)
       by_way (Some j) way g = given j way g
 
       named_taken : TakesAsTheLaw i due peers q s seat c between
-      named_taken = by_way (row_in_way due i q) refl (ways number q.name.items none_leaves peers q i due key s yields (memory_same due ∙ more))
+      named_taken = by_way (row_in_way due i q) refl (ways number q.name.items none_leaves peers q i due key s yields (for_memory_same due ∙ more))
 
     -- ---- which it is
 

@@ -1,3 +1,5 @@
+pub mod Cuts
+pub mod Disk
 pub mod Due
 pub mod Framed
 pub mod Found
