@@ -127,11 +127,11 @@ module _ (number0 : ℕ → ℕ) (peers : List Peer) (shelf : KeptMap) (i : ℕ)
   first : first_due s ≡ Some (Decide n seat.index due)
   first = sym found.due ∙ ap (λ (o : Option Seat). option_map (λ (x : Seat). due_as x.client.id x.index (IsDecidedDue due)) o) next.here
 
-  its : due_of s c ≡ Some (Decide n seat.index due)
-  its = its_due s s.clients (Decide n seat.index due) c first next.there (sound.apart.clients n)
+  own_due : due_of s c ≡ Some (Decide n seat.index due)
+  own_due = its_due s s.clients (Decide n seat.index due) c first next.there (sound.apart.clients n)
 
   open_client : IsUnbegun s c due
-  open_client = unbegun_by s c n seat.index due its
+  open_client = unbegun_by s c n seat.index due own_due
 
   taking : decides s ≡ true
   taking = deciding_by s (Decide n seat.index due) stands.deciding.at first
@@ -194,11 +194,10 @@ module _ (number0 : ℕ → ℕ) (peers : List Peer) (shelf : KeptMap) (i : ℕ)
   there_at t beside = ap (λ (cs : List Client). find (is_client n) cs) beside.clients ∙ next.there
 
   ends : (t : State) → u ≡ in_phase Deciding t → IsBeside s t → Leads (row_notes (row_in_way due i q) ++ Noted (Taken n seat.index due) ∷ []) s (take_decision n due (in_phase Deciding t))
-      → ShowsSteps number q.name.items none_leaves peers between (taken c due (in_phase Deciding t)) → TakesAsTheLaw i due peers q s seat c between
+      → ShowsSteps number q.name.items none_leaves peers between (taken c due (in_phase Deciding t)) → TakesAsTheLaw number i due peers q s seat c between
   ends t is beside leads shows = record {
     leads = subst (λ (v : State). Leads (row_notes (row_in_way due i q) ++ Noted (Taken n seat.index due) ∷ []) s (take_decision n due v)) (sym is) leads;
     regains = regains u n due c (ap (λ (v : State). client v n) is ∙ there_at t beside);
-    number = number;
     shows = subst (λ (v : State). ShowsSteps number q.name.items none_leaves peers between (taken c due v)) (sym is) shows;
   }
 
@@ -216,7 +215,7 @@ module _ (number0 : ℕ → ℕ) (peers : List Peer) (shelf : KeptMap) (i : ℕ)
   shown_alone : row_in_way due i q ≡ None → Shows turn (with_row_if text (in_phase Deciding s))
   shown_alone none = subst (λ (o : Option Instance). Shows (without_row o q) (with_row_if text (in_phase Deciding s))) (sym none) (rows_in Deciding s.made_room_for number q.name.items none_leaves peers (parts q) text s disk.turn.steps)
 
-  alone : row_in_way due i q ≡ None → room_made due s ≡ s → has_room_for s n due ≡ true → HasItsRow due (with_row_if text (in_phase Deciding s)) seat → taken c due (with_row_if text (in_phase Deciding s)) ≡ taken c due (in_phase Deciding s) → TakesAsTheLaw i due peers q s seat c between
+  alone : row_in_way due i q ≡ None → room_made due s ≡ s → has_room_for s n due ≡ true → HasItsRow due (with_row_if text (in_phase Deciding s)) seat → taken c due (with_row_if text (in_phase Deciding s)) ≡ taken c due (in_phase Deciding s) → TakesAsTheLaw number i due peers q s seat c between
   alone none stays room has same =
       let is : u ≡ in_phase Deciding s = ap (λ (t : State). in_phase Deciding t) stays in
       ends s is itself (leads_alone none room)
@@ -229,7 +228,7 @@ module _ (number0 : ℕ → ℕ) (peers : List Peer) (shelf : KeptMap) (i : ℕ)
   no_row : {A : Type 0} → true ≡ false → A
   no_row e = absurd (cc e)
 
-  for_memory : is_for_memory due ≡ true → TakesAsTheLaw i due peers q s seat c between
+  for_memory : is_for_memory due ≡ true → TakesAsTheLaw number i due peers q s seat c between
   for_memory memory =
       alone
       (ap (λ (b : Bool). elim (b || not (nat_lt 1024 (count_by is_row q.cache.instances))) as (λ t. Option Instance) [ true ↦ None | false ↦ option_and_then (unless_own i q) (idle_in q) ]) (for_memory_same due ∙ memory))
@@ -266,7 +265,7 @@ module _ (number0 : ℕ → ℕ) (peers : List Peer) (shelf : KeptMap) (i : ℕ)
     }
 
     -- none has to leave
-    none_leaves_for : row_in_way due i q ≡ None → is_some_with (λ t. must_forget s t) texts ≡ false → taken c due (with_row_if text (in_phase Deciding s)) ≡ taken c due (in_phase Deciding s) → TakesAsTheLaw i due peers q s seat c between
+    none_leaves_for : row_in_way due i q ≡ None → is_some_with (λ t. must_forget s t) texts ≡ false → taken c due (with_row_if text (in_phase Deciding s)) ≡ taken c due (in_phase Deciding s) → TakesAsTheLaw number i due peers q s seat c between
     none_leaves_for none isnt same = alone none (made_by false (idle_row s) isnt refl) (room_by false isnt) has_row same
 
     -- ---- no row came in
@@ -287,7 +286,7 @@ module _ (number0 : ℕ → ℕ) (peers : List Peer) (shelf : KeptMap) (i : ℕ)
       bare_not None owned = refl
       bare_not (Some key) owned = must_not s key.text.items (bare_kept key owned)
 
-      bare_taken : TakesAsTheLaw i due peers q s seat c between
+      bare_taken : TakesAsTheLaw number i due peers q s seat c between
       bare_taken = none_leaves_for bare_way (bare_not (owned_in (asked_in seat.front)) refl) (ap (λ (o : Option Bytes). taken c due (with_row_if o (in_phase Deciding s))) bare)
 
     -- ---- that of its key did, or stood there
@@ -362,18 +361,18 @@ module _ (number0 : ℕ → ℕ) (peers : List Peer) (shelf : KeptMap) (i : ℕ)
             (subst (λ (y : OwnedKey). row (with_row_of k (in_phase Deciding left)) y.text.items ≡ None → row_on_disk (with_row_of k (in_phase Deciding left)) y.text.items ≡ None) (some_is key other (sym owned ∙ is))
             (there_then k (in_phase Deciding left)))
 
-        given : TakesAsTheLaw i due peers q s seat c between
+        given : TakesAsTheLaw number i due peers q s seat c between
         given =
             ends left is_left (let out : IsBeside s (forget x.id s) = forget_beside x.id s in record { clients = out.clients; exchanges = out.exchanges; conns = out.conns }) both_lead
             (subst (λ (t : State). ShowsSteps number q.name.items none_leaves peers between t) (same_in left g.room)
             (shows_taken (in_phase Deciding left) beside shown_left (record { key = λ still. ready.key; kept = λ still. kept_left })
             (subst (λ (t : State). MayDo q.name.items i due (parts turn) (with_row_if text t) seat c) is_left rests.may)))
 
-      by_way : (o : Option Instance) → row_in_way due i q ≡ o → IsWay number q.name.items none_leaves peers q i due k s o → TakesAsTheLaw i due peers q s seat c between
+      by_way : (o : Option Instance) → row_in_way due i q ≡ o → IsWay number q.name.items none_leaves peers q i due k s o → TakesAsTheLaw number i due peers q s seat c between
       by_way None way none = none_leaves_for way (must_by false none) (same_in s none)
       by_way (Some j) way g = given j way g
 
-      named_taken : TakesAsTheLaw i due peers q s seat c between
+      named_taken : TakesAsTheLaw number i due peers q s seat c between
       named_taken = by_way (row_in_way due i q) refl (ways number q.name.items none_leaves peers q i due key s yields (for_memory_same due ∙ more))
 
     -- ---- which it is
@@ -384,18 +383,28 @@ module _ (number0 : ℕ → ℕ) (peers : List Peer) (shelf : KeptMap) (i : ℕ)
     text_is : text ≡ key_due p seat
     text_is = ap (λ (o : Option Seat). option_and_then (key_due p) o) seats_same
 
-    by_text : (b : Bool) → is_to_enter p seat ≡ b → (o : Option OwnedKey) → owned_in (asked_in seat.front) ≡ o → TakesAsTheLaw i due peers q s seat c between
+    by_text : (b : Bool) → is_to_enter p seat ≡ b → (o : Option OwnedKey) → owned_in (asked_in seat.front) ≡ o → TakesAsTheLaw number i due peers q s seat c between
     by_text false enters o owned = bare_taken (text_is ∙ ap (λ (b : Bool). elim b as (λ t. Option Bytes) [ true ↦ texts | false ↦ None ]) enters)
     by_text true enters None owned = bare_taken (text_is ∙ ap₂ (λ (b : Bool) (o : Option OwnedKey). elim b as (λ t. Option Bytes) [ true ↦ option_map (λ (k : OwnedKey). k.text.items) o | false ↦ None ]) enters owned)
     by_text true enters (Some key) owned =
         named_taken key owned (text_is ∙ ap₂ (λ (b : Bool) (o : Option OwnedKey). elim b as (λ t. Option Bytes) [ true ↦ option_map (λ (k : OwnedKey). k.text.items) o | false ↦ None ]) enters owned)
 
-    for_more : TakesAsTheLaw i due peers q s seat c between
+    for_more : TakesAsTheLaw number i due peers q s seat c between
     for_more = by_text (is_to_enter p seat) refl (owned_in (asked_in seat.front)) refl
 
-  by_memory : (b : Bool) → is_for_memory due ≡ b → TakesAsTheLaw i due peers q s seat c between
+  by_memory : (b : Bool) → is_for_memory due ≡ b → TakesAsTheLaw number i due peers q s seat c between
   by_memory true memory = for_memory memory
   by_memory false more = for_more more
 
+  pub its : IsFirst none_leaves peers shelf p q s (Some (i, IsDecidedDue due))
+  its = found
+
+  pub its_open : IsUnbegun s c due
+  its_open = open_client
+
+  pub its_taking : TakesAsTheLaw number i due peers q s seat c between
+  its_taking = by_memory (is_for_memory due) refl
+
 pub leads : DecisionsLead
-leads number peers shelf i due p q s seat c between stands sound next rests it = by_memory number peers shelf i due p q s seat c between stands sound next rests it (is_for_memory due) refl
+leads number peers shelf i due p q s seat c between stands sound next rests it =
+    ((its number peers shelf i due p q s seat c between stands sound next rests it).number, its_taking number peers shelf i due p q s seat c between stands sound next rests it)

@@ -1,6 +1,9 @@
+pub mod Behind
 pub mod Cuts
 pub mod Disk
 pub mod Due
-pub mod Framed
 pub mod Found
+pub mod Framed
+pub mod Keeps
+pub mod Law
 pub mod Leads

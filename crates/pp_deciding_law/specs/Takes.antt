@@ -83,12 +83,11 @@ pub record RestsOn (i : ℕ) (due : Decision) (p q : Turn) (s : State) (seat : S
 -- ---- both
 
 -- its notes lead there, where attempts count anew; and before they do, the program's parts show the law's state
-pub record TakesAsTheLaw (i : ℕ) (due : Decision) (peers : List Peer) (q : Turn) (s : State) (seat : Seat) (c : Client) (between : Parts) : Type 0 where
+pub record TakesAsTheLaw (number : ℕ → ℕ) (i : ℕ) (due : Decision) (peers : List Peer) (q : Turn) (s : State) (seat : Seat) (c : Client) (between : Parts) : Type 0 where
   pub leads : Leads (row_notes (row_in_way due i q) ++ Noted (Taken seat.client.id seat.index due) ∷ []) s (behind_taken seat.client.id due s)
   pub regains : behind_taken seat.client.id due s ≡ regained (taken c due (to_take due s))
-  pub number : ℕ → ℕ
   pub shows : ShowsSteps number q.name.items none_leaves peers between (taken c due (to_take due s))
 
 abbrev pub DecisionsLead : Type 0
 DecisionsLead = (number : ℕ → ℕ) (peers : List Peer) (shelf : KeptMap) (i : ℕ) (due : Decision) (p q : Turn) (s : State) (seat : Seat) (c : Client) (between : Parts) → StandsToDecide number peers shelf p s → IsSoundTurn s → IsNext shelf i due p q s seat c → RestsOn i due p q s seat c
-    → Takes q.name.items i due (parts (given_way due i q)) between → TakesAsTheLaw i due peers q s seat c between
+    → Takes q.name.items i due (parts (given_way due i q)) between → (later : ℕ → ℕ) × TakesAsTheLaw later i due peers q s seat c between

@@ -19,4 +19,4 @@ mod taking; // a decision is found, and taken
 
 pub use cutting::cuts_lead_as_by_the_law;
 pub use finding::nothing_is_due_as_by_the_law;
-pub use taking::decisions_lead_as_by_the_law;
+pub use taking::{decisions_lead_as_by_the_law, turns_stand_behind_decisions};
