@@ -71,7 +71,7 @@ module _ (number0 : ℕ → ℕ) (peers : List Peer) (shelf : KeptMap) (i : ℕ)
   abbrev x : Sides
   x = record { parts = parts q; peers = peers }
 
-  found : IsFirst none_leaves peers shelf p q s (Some (i, IsCut cause))
+  pub found : IsFirst none_leaves peers shelf p q s (Some (i, IsCut cause))
   found = first_dues number0 none_leaves peers shelf p q s (Some (i, IsCut cause)) (shows_disk number0 peers shelf p s stands sound) stands.kept stands.awake next.first
 
   abbrev number : ℕ → ℕ
@@ -109,7 +109,7 @@ module _ (number0 : ℕ → ℕ) (peers : List Peer) (shelf : KeptMap) (i : ℕ)
       ap (λ (o : Option Seat). option_and_then (key_due p) o) before
       ∙ ap (λ (o : Option Cause). elim (not (is_some o) && not (is_refused_in seat.brought)) as (λ t. Option Bytes) [ true ↦ option_map (λ key. key.text.items) (owned_in (asked_in seat.front)) | false ↦ None ]) cut_before
 
-  disk : ShowsDisk number none_leaves peers shelf q s
+  pub disk : ShowsDisk number none_leaves peers shelf q s
   disk = subst (λ (o : Option Bytes). ShowsDisk number none_leaves peers shelf q (with_row_if o s)) bare found.shows
 
   -- ---- it is closed
@@ -132,7 +132,7 @@ module _ (number0 : ℕ → ℕ) (peers : List Peer) (shelf : KeptMap) (i : ℕ)
     rests = λ e its. sound.rests e (in_find (is_of c.number) e s.exchanges its).0;
   }
 
-  closed : ShowsSides number q.name.items (closed_client i x) (close_client n true u)
+  pub closed : ShowsSides number q.name.items (closed_client i x) (close_client n true u)
   closed = subst (λ (m : ℕ). ShowsSides number q.name.items (closed_client i x) (close_client m true u)) (sym seen.number) (leaves_client number q.name.items x u shows i true seat c may)
 
   cuts_so : CutsAsTheLaw i cause peers q s seat

@@ -101,14 +101,16 @@ pub none_next : NoneIsTheLaws
 none_next number peers shelf p q s stands sound first =
     let its : IsFirst none_leaves peers shelf p q s None = first_dues number none_leaves peers shelf p q s None (shows_disk number peers shelf p s stands sound) stands.kept stands.awake first in
     record {
-      number = its.number;
-      stands = record {
-        deciding = stands.deciding;
-        turn = its.shows.turn;
-        disk = kept_on shelf p.cache q.cache s s (first_notes_none shelf p.awake.items p q None first) (λ key. refl) stands.disk;
-        ready = its.shows.ready;
-        kept = stands.kept;
-        awake = awake_on p q (first_keeps shelf p.awake.items p q None first) stands.awake;
+      behind = record {
+        number = its.number;
+        stands = record {
+          deciding = stands.deciding;
+          turn = its.shows.turn;
+          disk = kept_on shelf p.cache q.cache s s (first_notes_none shelf p.awake.items p q None first) (λ key. refl) stands.disk;
+          ready = its.shows.ready;
+          kept = stands.kept;
+          awake = awake_on p q (first_keeps shelf p.awake.items p q None first) stands.awake;
+        };
       };
       none = sym its.due;
     }

@@ -1,6 +1,6 @@
 -- What a decision leaves: the other clients, and of memory what was there. No instance comes in, and no entry is outdated by it.
 use Rattle.std.proofs.Common.{◌≡◌, ◌⊎◌, ◌≤◌, inl, inr, refl, sym, subst, ap, ap₂, ◌∙◌, ℕ, zero, suc, Bool, true, false, ◌==◌, ◌&&◌, not, cond, nat_lt, length, List, [], ◌∷◌, Option, Some, None, le_refl, le_trans}
-use Rattle.std.specs.Prelude.{option_and_then, slice_get, slice_set}
+use Rattle.std.specs.Prelude.{option_and_then, option_map, slice_get, slice_set}
 use Rattle.pp_cache.specs.Memory.{Memory}
 use Rattle.pp_cache_law.proofs.Moves.{in_slot-elsewhere, in_slot-gone}
 use Rattle.pp_cache_law.proofs.Numbers.{is_same, some_is}
@@ -11,7 +11,9 @@ use Rattle.pp_decides_law.proofs.Refused.{left_stands}
 use Rattle.pp_decides_law.proofs.Regained.{get_other}
 use Rattle.pp_decides_law.proofs.Sitting.{interim_front, interim_number, interim_source}
 use Rattle.pp_decides_law.proofs.StandingRow.{followed_by_one, more_stands}
-use Rattle.pp_flow.specs.Changes.{Exchanges}
+use Rattle.pp_desk.specs.Closings.{Sides, closed_client, closing_at, left_at, left_by_errand, left_own, with_parts, withdrawn}
+use Rattle.pp_flow.specs.Changes.{Exchanges, entry_of}
+use Rattle.pp_flow.specs.declared.entry.Entry.{Entry}
 use Rattle.pp_flow.specs.declared.entry.Aim.{Aim}
 use Rattle.pp_flow.specs.declared.entry.Exchange.{Exchange}
 use Rattle.pp_flow.specs.declared.errand.Errand.{Errand}
@@ -28,7 +30,7 @@ use Rattle.pp_seats.specs.declared.seat.Brought.TheVariants.{Joins}
 use Rattle.pp_seats.specs.declared.seat.Seat.{Seat}
 use Rattle.pp_seats.specs.declared.seat.Stage.{Stage}
 use Rattle.pp_seats.specs.declared.seat.Stage.TheVariants.{Undecided, Waiting, Passing, Answering}
-use Rattle.pp_state.specs.Ends.{Parts, changed_at, ended, exchange_of, left, left_at_decision, left_by, left_source, on_seat, parts, source_at, source_of, unfollowed, unfollowing, without_source}
+use Rattle.pp_state.specs.Ends.{Parts, changed_at, ended, exchange_of, forsaken, left, left_at_decision, left_by, left_source, on_seat, parts, source_at, source_of, unfollowed, unfollowing, without_source}
 use Rattle.pp_state.specs.Passing.{may_answer}
 use Rattle.pp_state.specs.Pins.{is_for_memory, without_instance}
 use Rattle.pp_state.specs.Places.{IsChangedIn}
@@ -44,7 +46,7 @@ use Rattle.pp_world.specs.declared.note.Decision.TheVariants.{Refuse, Hit, Part,
 -- its request is the same, its exchange joined nothing else, and it follows what it did, or what is there
 pub record IsAfter (m : Memory) (seat new : Seat) : Type 0 where
   pub front : new.front ≡ seat.front
-  pub closing : new.is_closing ≡ seat.is_closing
+  pub going : new.is_closing ≡ false → seat.is_closing ≡ false
   pub joins : (id : ObjectId) (plain : Bool) → new.brought ≡ Joins id plain → seat.brought ≡ Joins id plain
   pub follows : (id : ObjectId) → source_of new ≡ Some id → (source_of seat ≡ Some id) ⊎ (is_there id m.instances ≡ true)
 
@@ -127,7 +129,7 @@ module _ (m : Memory) (i : ℕ) where
   -- ---- one behind the other
 
   same_seat : (seat : Seat) → IsAfter m seat seat
-  same_seat seat = record { front = refl; closing = refl; joins = λ id plain is. is; follows = λ id is. inl is }
+  same_seat seat = record { front = refl; going = λ goes. goes; joins = λ id plain is. is; follows = λ id is. inl is }
 
   pub keeps_none : (p : Parts) → Keeps m i p p
   keeps_none p = record { count = refl; others = λ j apart. refl; stands = λ next. none_comes p.cache next; outdated = refl; own = λ seat here. record { new = seat; here = here; is = same_seat seat } }
@@ -135,7 +137,7 @@ module _ (m : Memory) (i : ℕ) where
   after_then : (a b c : Seat) → IsAfter m a b → IsAfter m b c → IsAfter m a c
   after_then a b c one two = record {
     front = two.front ∙ one.front;
-    closing = two.closing ∙ one.closing;
+    going = λ goes. one.going (two.going goes);
     joins = λ id plain is. one.joins id plain (two.joins id plain is);
     follows = λ id is. by id (two.follows id is);
   }
@@ -186,10 +188,10 @@ module _ (m : Memory) (i : ℕ) where
       by (Some seat) here = keeps_set p seat (f seat) here (after seat)
 
   interim_after : (seat : Seat) → IsAfter m seat (with_interim seat)
-  interim_after seat = record { front = interim_front seat; closing = interim_closing seat; joins = λ id plain is. sym (interim_brought seat) ∙ is; follows = λ id is. inl (sym (interim_source seat) ∙ is) }
+  interim_after seat = record { front = interim_front seat; going = λ goes. sym (interim_closing seat) ∙ goes; joins = λ id plain is. sym (interim_brought seat) ∙ is; follows = λ id is. inl (sym (interim_source seat) ∙ is) }
 
-  no_source : (seat new : Seat) → new.front ≡ seat.front → new.is_closing ≡ seat.is_closing → ((id : ObjectId) (plain : Bool) → new.brought ≡ Joins id plain → seat.brought ≡ Joins id plain) → source_of new ≡ None → IsAfter m seat new
-  no_source seat new front closing joins none = record { front = front; closing = closing; joins = joins; follows = λ id is. absurd (let both : None ≡ Some id = sym none ∙ is in cc both) }
+  no_source : (seat new : Seat) → new.front ≡ seat.front → (new.is_closing ≡ false → seat.is_closing ≡ false) → ((id : ObjectId) (plain : Bool) → new.brought ≡ Joins id plain → seat.brought ≡ Joins id plain) → source_of new ≡ None → IsAfter m seat new
+  no_source seat new front going joins none = record { front = front; going = going; joins = joins; follows = λ id is. absurd (let both : None ≡ Some id = sym none ∙ is in cc both) }
 
   keeps_source : (p : Parts) → Keeps m i p (left_source i p)
   keeps_source p = by (source_at i p)
@@ -198,7 +200,7 @@ module _ (m : Memory) (i : ℕ) where
       by None = keeps_none p
       by (Some id) =
           keeps_then p (on_seat i without_source p) (record (on_seat i without_source p) { cache = unfollowed id p.cache })
-          (keeps_seat without_source p (λ seat. no_source seat (without_source seat) refl refl (λ k plain is. is) (unfollowing_none seat)))
+          (keeps_seat without_source p (λ seat. no_source seat (without_source seat) refl (λ goes. goes) (λ k plain is. is) (unfollowing_none seat)))
           (keeps_memory (on_seat i without_source p) (unfollowed id p.cache) (λ next. left_stands (Some id) p.cache next) (left_notes id p.cache))
 
   keeps_left : (p : Parts) → Keeps m i p (left_at_decision i p)
@@ -226,13 +228,13 @@ module _ (m : Memory) (i : ℕ) where
           refl
 
   keeps_accounted : (d : Decision) (p : Parts) → Keeps m i p (accounted i d p)
-  keeps_accounted d p = keeps_seat (λ (seat : Seat). record seat { account = decided d seat.account }) p (λ seat. record { front = refl; closing = refl; joins = λ id plain is. is; follows = λ id is. inl is })
+  keeps_accounted d p = keeps_seat (λ (seat : Seat). record seat { account = decided d seat.account }) p (λ seat. record { front = refl; going = λ goes. goes; joins = λ id plain is. is; follows = λ id is. inl is })
 
   -- ---- a page
 
   page_after : (status : ℕ) (b : Bool) (seat new : Seat) → IsPagedIf b status seat new → IsAfter m seat new
   page_after status true seat new is =
-      no_source seat new (ap (λ (x : Seat). x.front) is) (ap (λ (x : Seat). x.is_closing) is) (λ id plain brought. absurd (let both = sym (ap (λ (x : Seat). x.brought) is) ∙ brought in cc both)) (ap (λ (x : Seat). source_of x) is)
+      no_source seat new (ap (λ (x : Seat). x.front) is) (λ goes. sym (ap (λ (x : Seat). x.is_closing) is) ∙ goes) (λ id plain brought. absurd (let both = sym (ap (λ (x : Seat). x.brought) is) ∙ brought in cc both)) (ap (λ (x : Seat). source_of x) is)
   page_after status false seat new is = subst (λ (x : Seat). IsAfter m seat x) (sym is) (same_seat seat)
 
   gets_page : (status : ℕ) (p q : Parts) → GetsPage status i p q → Keeps m i p q
@@ -262,8 +264,8 @@ module _ (m : Memory) (i : ℕ) where
   -- ---- an ask
 
   asking_after : (passes : Bool) (seat : Seat) → IsAfter m seat (asking passes seat)
-  asking_after true seat = no_source seat (asking true seat) refl refl (λ id plain is. absurd (cc is)) refl
-  asking_after false seat = no_source seat (asking false seat) refl refl (λ id plain is. absurd (cc is)) refl
+  asking_after true seat = no_source seat (asking true seat) refl (λ goes. goes) (λ id plain is. absurd (cc is)) refl
+  asking_after false seat = no_source seat (asking false seat) refl (λ goes. goes) (λ id plain is. absurd (cc is)) refl
 
   keeps_begun : (aim : Aim) (errand : Errand) (text : List ℕ) (p : Parts) → Keeps m i p (exchange_begun i aim errand text p)
   unfolding exchange_begun
@@ -282,7 +284,7 @@ module _ (m : Memory) (i : ℕ) where
   unfolding answered_at
   keeps_answered d source span p there =
       keeps_then p (left_source i p) (on_seat i (answering d source span) (left_source i p)) (keeps_source p)
-      (keeps_seat (answering d source span) (left_source i p) (λ seat. record { front = refl; closing = refl; joins = λ id plain is. is; follows = λ id is. inr (there id is) }))
+      (keeps_seat (answering d source span) (left_source i p) (λ seat. record { front = refl; going = λ goes. goes; joins = λ id plain is. is; follows = λ id is. inr (there id is) }))
 
   keeps_relayed : (p : Parts) → Keeps m i p (relayed i p)
   keeps_relayed p = keeps_then p (on_seat i with_interim p) (relayed i p) (keeps_seat with_interim p interim_after) (keeps_answered Relay None (0, 0) (on_seat i with_interim p) (λ id is. absurd (cc is)))
@@ -346,3 +348,37 @@ module _ (m : Memory) (i : ℕ) where
   pub way_keeps : (o : Option Instance) (q : Turn) → Keeps m i (parts q) (parts (without_row o q))
   way_keeps None q = keeps_none (parts q)
   way_keeps (Some j) q = keeps_memory (parts q) (without_instance j q.cache) (λ next. record { lives = le_refl q.cache.lives; numbers = le_refl next; there = λ id there. there_before id j.slot q.cache.instances there }) refl
+
+  -- ---- it is closed
+
+  pub keeps_closing : (p : Parts) → Keeps m i p (closing_at i p)
+  keeps_closing p =
+      keeps_then p (left_source i p) (closing_at i p) (keeps_source p)
+      (keeps_seat (λ (seat : Seat). record seat { is_closing = true }) (left_source i p) (λ seat. record { front = refl; going = λ goes. absurd (cc goes); joins = λ id plain is. is; follows = λ id is. inl is }))
+
+  keeps_forsaken : (p : Parts) → Keeps m i p (forsaken i p)
+  keeps_forsaken p = by (exchange_of i p)
+    where
+      by : (o : Option Exchange) → Keeps m i p (elim o as (λ t. Parts) [ None ↦ p | Some e ↦ left e.number p ])
+      by None = keeps_none p
+      by (Some e) = keeps_flow p _
+
+  -- whose exchange is over, or nobody's
+  keeps_own : (o : Option Exchange) (x : Sides) → Keeps m i x.parts (left_own i o x).parts
+  keeps_own None x = keeps_none x.parts
+  keeps_own (Some e) x = by (option_map (λ (y : Entry). y.errand) (entry_of e.number x.parts.flow))
+    where
+      by_asked : (b : Bool) (k : ℕ) → Keeps m i x.parts (cond b (withdrawn e.number k x) (with_parts (forsaken i) x)).parts
+      by_asked true k = keeps_flow x.parts _
+      by_asked false k = keeps_forsaken x.parts
+
+      by_place : (errand : Errand) (o : Option ℕ) → Keeps m i x.parts (left_at i e.number errand o x).parts
+      by_place errand None = keeps_flow x.parts _
+      by_place errand (Some k) = by_asked (errand.asked == 0) k
+
+      by : (o : Option Errand) → Keeps m i x.parts (left_by_errand i e o x).parts
+      by None = keeps_none x.parts
+      by (Some errand) = by_place errand e.place
+
+  pub cuts_keep : (x : Sides) → Keeps m i x.parts (closed_client i x).parts
+  cuts_keep x = keeps_then x.parts (closing_at i x.parts) (closed_client i x).parts (keeps_closing x.parts) (keeps_own (exchange_of i (closing_at i x.parts)) (with_parts (closing_at i) x))

@@ -1,23 +1,25 @@
--- What a decision keeps of the law's state: what is kept on the disk, what is set, and the phase.
-use Rattle.std.proofs.Common.{◌≡◌, refl, sym, ap, ◌∙◌, ℕ, Bool, true, false, ◌||◌, not, nat_lt, find, List, [], Option, Some, None, Ok, Err, Result}
+-- What a decision and a cut keep of the law's state: what is kept on the disk, what is set, and the phase.
+use Rattle.std.proofs.Common.{◌≡◌, refl, sym, ap, ◌∙◌, ℕ, Bool, true, false, ◌==◌, ◌||◌, not, nat_lt, find, List, [], ◌∷◌, Option, Some, None, Ok, Err, Result}
 use Rattle.pp_ask.specs.declared.kind.AskKind.{AskKind}
 use Rattle.pp_conf.specs.Conf.{Settings}
 use Rattle.pp_decides_law.specs.Takes.{taken}
 use Rattle.pp_decides_law.specs.Ways.{left_for}
 use Rattle.pp_head.specs.Request.{Request}
-use Rattle.pp_law.specs.Closing.{forsake, is_of, leave}
-use Rattle.pp_law.specs.Connections.{on_client}
+use Rattle.pp_law.specs.Closing.{close_client, exchanges_of, forsake, is_of, leave, leave_one, left_alone}
+use Rattle.pp_law.specs.Connections.{each_exchange, end_exchange, exchange, on_client, on_exchange}
 use Rattle.pp_law.specs.Deciding.{add_exchange, ask_as, ask_for, ask_origin, begin_exchange, decided, decided_by, enter_row, follow, follow_row, follow_with, is_for_memory, mark_row_of, refuse, relay}
 use Rattle.pp_law.specs.Decisions.{kind_of}
 use Rattle.pp_law.specs.Due.{first_due}
 use Rattle.pp_law.specs.Leaving.{forgets_next}
 use Rattle.pp_law.specs.Lists.{Bytes, has_text}
+use Rattle.pp_law.specs.Phases.{in_phase}
 use Rattle.pp_law.specs.Replies.{regained}
 use Rattle.pp_law.specs.Requests.{Front, Parsed, NoHeadYet, NoHead, IsRequest, key_in}
-use Rattle.pp_law.specs.State.{State, Client, Entry, Instance as Known, Phase, Reply, Deciding}
+use Rattle.pp_law.specs.State.{State, Client, Entry, Exchange, Instance as Known, Phase, Reply, Deciding}
 use Rattle.pp_law.specs.Table.{add_row, enter, forget, forget_row, idle_row, is_kept_row_of, mark_row, row, row_for, row_on_disk, rows, swept, with_room}
 use Rattle.pp_obeys.proofs.Frames.{Frame, Stays, frame, frame_of, stays}
 use Rattle.pp_obeys.proofs.StaysAsks.{decided-stays}
+use Rattle.pp_obeys.proofs.StaysTable.{close_client-stays}
 use Rattle.pp_target.specs.Key.{Key, text_of}
 use Rattle.pp_target.specs.declared.target.TargetFault.{TargetFault}
 use Rattle.pp_world.specs.declared.note.Decision.{Decision}
@@ -208,3 +210,59 @@ pub record RegainedAs (s t : State) : Type 0 where
 pub regained_as : (s : State) → RegainedAs s (regained s)
 unfolding regained
 regained_as s = record { phase = refl; room = refl }
+
+-- ---- a client that is cut
+
+each_disk : (f : Exchange → State → State) → ((e : Exchange) (s : State) → SameDisk s (f e s)) → (ns : List ℕ) (s : State) → SameDisk s (each_exchange f ns s)
+unfolding each_exchange
+each_disk f all [] s = itself s
+each_disk f all (n ∷ ns) s =
+    let one : State = elim (exchange s n) as (λ c. State) [ None ↦ s | Some e ↦ f e s ] in
+    then s one (each_exchange f ns one) (each (exchange s n) s s (λ e. f e s) (itself s) (λ e. all e s)) (each_disk f all ns one)
+
+over_disk : (n : ℕ) (s : State) → SameDisk s (end_exchange n s)
+unfolding end_exchange
+over_disk n s = record { entries = refl; displaced = refl }
+
+alone_disk : (n : ℕ) (s : State) → SameDisk s (on_exchange n left_alone s)
+unfolding on_exchange
+alone_disk n s = record { entries = refl; displaced = refl }
+
+leave_one_disk : (e : Exchange) (s : State) → SameDisk s (leave_one e s)
+unfolding leave_one
+leave_one_disk e s = when (e.asked == 0) s (end_exchange e.number s) (on_exchange e.number left_alone s) (over_disk e.number s) (alone_disk e.number s)
+
+client_disk : (n : ℕ) (f : Client → Client) (s : State) → SameDisk s (on_client n f s)
+unfolding on_client
+client_disk n f s = record { entries = refl; displaced = refl }
+
+swept_disk : (s : State) → SameDisk s (swept s)
+unfolding swept
+swept_disk s = record { entries = refl; displaced = refl }
+
+close_disk : (n : ℕ) (is_cut : Bool) (s : State) → SameDisk s (close_client n is_cut s)
+unfolding close_client
+close_disk n is_cut s =
+    let closing : State = on_client n (λ c. record c { is_closing = true; is_cut = c.is_cut || is_cut }) s in
+    let left : State = each_exchange leave_one (exchanges_of n s) closing in
+    then s left (swept left) (then s closing left (client_disk n _ s) (each_disk leave_one leave_one_disk (exchanges_of n s) closing)) (swept_disk left)
+
+pub cut_disk : (n : ℕ) (s : State) → SameDisk s (close_client n true (in_phase Deciding s))
+cut_disk n s = let done : SameDisk (in_phase Deciding s) (close_client n true (in_phase Deciding s)) = close_disk n true (in_phase Deciding s) in record { entries = done.entries; displaced = done.displaced }
+
+closed_frame : (n : ℕ) (s : State) → frame true (close_client n true (in_phase Deciding s)) ≡ frame true (in_phase Deciding s)
+closed_frame n s = frame_of (close_client-stays {true} {frame true (in_phase Deciding s)} n true (in_phase Deciding s) (stays refl))
+
+pub cut_words : (n : ℕ) (s : State) → SameWords s (close_client n true (in_phase Deciding s))
+cut_words n s = record {
+  settings = ap (λ (o : Frame). o.settings) (closed_frame n s);
+  clock = ap (λ (o : Frame). o.clock) (closed_frame n s);
+  ticked = ap (λ (o : Frame). o.is_ticked) (closed_frame n s);
+  stopped = ap (λ (o : Frame). o.is_stopped) (closed_frame n s);
+}
+
+pub cut_phase : (n : ℕ) (s : State) → (close_client n true (in_phase Deciding s)).phase ≡ Deciding
+cut_phase n s = ap (λ (o : Frame). o.phase) (closed_frame n s)
+
+pub cut_room : (n : ℕ) (s : State) → (close_client n true (in_phase Deciding s)).made_room_for ≡ s.made_room_for
+cut_room n s = ap (λ (o : Frame). o.made_room_for) (closed_frame n s)

@@ -1,4 +1,5 @@
 pub mod Behind
+pub mod CutBehind
 pub mod Cuts
 pub mod Disk
 pub mod Due
@@ -7,3 +8,4 @@ pub mod Framed
 pub mod Keeps
 pub mod Law
 pub mod Leads
+pub mod Stays

@@ -11,17 +11,13 @@ use Rattle.pp_steps.specs.Evicting.{given_way}
 use Rattle.pp_store.specs.Kept.{KeptMap}
 use Rattle.pp_take.specs.Deciding.{Takes}
 use Rattle.pp_world.specs.declared.note.Decision.{Decision}
-use Rattle.pp_deciding_law.specs.Stands.{StandsToDecide}
+use Rattle.pp_deciding_law.specs.Stands.{StandsBehind, StandsToDecide}
 use Rattle.pp_deciding_law.specs.Takes.{IsNext, RestsOn, behind_taken}
 
 -- attempts count anew of those who are looked at, and all else stays: as `take_due` says of it
 pub record IsBehind (q r : Turn) (between : Parts) : Type 0 where
   pub is : parts r ≡ record between { seats = all_regained between.cache q.awake.items between.seats }
   pub rest : KeepsRest q r
-
-pub record StandsBehind (peers : List Peer) (shelf : KeptMap) (r : Turn) (t : State) : Type 0 where
-  pub number : ℕ → ℕ
-  pub stands : StandsToDecide number peers shelf r t
 
 -- the cache is bounded, as each is; and the law's state behind it is sound, as each that a lawful log leads to
 abbrev pub DecisionsStand : Type 0

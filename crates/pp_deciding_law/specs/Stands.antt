@@ -40,12 +40,16 @@ pub record StandsToDecide (number : ℕ → ℕ) (peers : List Peer) (shelf : Ke
   pub kept : AreAsKept shelf
   pub awake : AreAwake p
 
+-- by some numbers
+pub record StandsBehind (peers : List Peer) (shelf : KeptMap) (p : Turn) (s : State) : Type 0 where
+  pub number : ℕ → ℕ
+  pub stands : StandsToDecide number peers shelf p s
+
 -- ---- nothing is found
 
--- nothing is due by the law, and it stands as before, by these numbers
+-- nothing is due by the law, and it stands as before
 pub record NoneIsNext (peers : List Peer) (shelf : KeptMap) (q : Turn) (s : State) : Type 0 where
-  pub number : ℕ → ℕ
-  pub stands : StandsToDecide number peers shelf q s
+  pub behind : StandsBehind peers shelf q s
   pub none : first_due s ≡ None
 
 -- where memory is refused for no row

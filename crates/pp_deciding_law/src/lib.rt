@@ -17,6 +17,6 @@ mod cutting; // a cut is found
 mod finding; // nothing is found
 mod taking; // a decision is found, and taken
 
-pub use cutting::cuts_lead_as_by_the_law;
+pub use cutting::{cuts_lead_as_by_the_law, turns_stand_behind_cuts};
 pub use finding::nothing_is_due_as_by_the_law;
 pub use taking::{decisions_lead_as_by_the_law, turns_stand_behind_decisions};
