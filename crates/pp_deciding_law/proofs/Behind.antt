@@ -1,5 +1,5 @@
 -- Behind a decision the turn stands as before it.
-use Rattle.std.proofs.Common.{◌≡◌, ◌⊎◌, ◌≤◌, ◌<◌, ◌+◌, inl, inr, refl, sym, subst, ap, ap₂, ◌∙◌, ℕ, zero, suc, Bool, true, false, ◌==◌, ◌||◌, find, map, filter, length, List, [], ◌∷◌, Option, Some, None, option_map}
+use Rattle.std.proofs.Common.{◌≡◌, ◌⊎◌, ◌≤◌, ◌<◌, ◌+◌, inl, inr, refl, sym, subst, ap, ap₂, ◌∙◌, ℕ, zero, suc, Bool, true, false, ◌==◌, ◌||◌, cond, find, map, filter, length, List, [], ◌∷◌, Option, Some, None, option_map}
 use Rattle.std.specs.Prelude.{slice_get, slice_set}
 use Rattle.pp_cache.specs.Bounds.{IsBounded}
 use Rattle.pp_cache.specs.Memory.{Memory}
@@ -72,7 +72,7 @@ module _ (m : Memory) where
   one_was : (seat : Seat) → regained_seat m seat ≡ record seat { course = (regained_seat m seat).course }
   one_was seat = by _
     where
-      by : (b : Bool) → (let x : Seat = elim b as (λ t. Seat) [ true ↦ record seat { course = Trying 0 } | false ↦ seat ] in x ≡ record seat { course = x.course })
+      by : (b : Bool) → (let x : Seat = cond b (record seat { course = Trying 0 }) seat in x ≡ record seat { course = x.course })
       by true = refl
       by false = refl
 
@@ -117,20 +117,23 @@ module _ (m : Memory) where
 
 -- ---- what is found is of one who is looked at
 
-pub found_in : (shelf : KeptMap) (places : List ℕ) (p q : Turn) (i : ℕ) (d : SeatDue) → FirstDueInMemory shelf places p q (Some (i, d)) → has_number i places ≡ true
+abbrev pub found_at : ℕ → SeatDue → Option (ℕ × SeatDue)
+found_at i d = Some (i, d)
+
+pub same_place : (i k : ℕ) (d e : SeatDue) → found_at i d ≡ found_at k e → i ≡ k
+same_place i k d e same = let pair : ◌≡◌ {A = ℕ × SeatDue} (i, d) (k, e) = cc same in ap (λ (x : ℕ × SeatDue). x.0) pair
+
+or_true : (b : Bool) → (b || true) ≡ true
+or_true true = refl
+or_true false = refl
+
+pub found_in : (shelf : KeptMap) (places : List ℕ) (p q : Turn) (i : ℕ) (d : SeatDue) → FirstDueInMemory shelf places p q (found_at i d) → has_number i places ≡ true
 unfolding FirstDueInMemory
 found_in shelf [] p q i d first = absurd (cc first.1)
 found_in shelf (j ∷ places) p q i d (now, due, its, rest) = by due rest
   where
-    same_place : (e : SeatDue) → (let o : Option (ℕ × SeatDue) = Some (i, d) in o) ≡ Some (j, e) → i ≡ j
-    same_place e is = ap (λ (x : ℕ × SeatDue). x.0) (some_is {A = ℕ × SeatDue} (i, d) (j, e) is)
-
-    or_true : (b : Bool) → (b || true) ≡ true
-    or_true true = refl
-    or_true false = refl
-
-    by : (o : Option SeatDue) → (elim o as (λ c. Type 0) [ Some e ↦ (q ≡ now) × ((let x : Option (ℕ × SeatDue) = Some (i, d) in x) ≡ Some (j, e)) | None ↦ FirstDueInMemory shelf places now q (Some (i, d)) ]) → has_number i (j ∷ places) ≡ true
-    by (Some e) here = ap (λ (b : Bool). b || has_number i places) (same_test j i (sym (same_place e here.1)))
+    by : (o : Option SeatDue) → (elim o as (λ c. Type 0) [ Some e ↦ (q ≡ now) × (found_at i d ≡ found_at j e) | None ↦ FirstDueInMemory shelf places now q (found_at i d) ]) → has_number i (j ∷ places) ≡ true
+    by (Some e) here = ap (λ (b : Bool). b || has_number i places) (same_test j i (sym (same_place i j d e here.1)))
     by None more = ap (λ (b : Bool). (j == i) || b) (found_in shelf places now q i d more) ∙ or_true (j == i)
 
 -- ---- what the law's client follows

@@ -221,7 +221,7 @@ module _ (m : Memory) (i : ℕ) where
     where
       by : (b : Bool) (o : Option Instance) → Keeps m i p (elim b as (λ t. Parts) [ true ↦ p | false ↦ record p { cache = with_marked o p.cache } ])
       by true o = keeps_none p
-      by false None = keeps_none p
+      by false None = keeps_memory p p.cache (λ next. none_comes p.cache next) refl
       by false (Some x) =
           keeps_memory p (with_marked (Some x) p.cache)
           (λ next. record { lives = le_refl p.cache.lives; numbers = le_refl next; there = λ id there. sym (there_moved x.slot p.cache.instances id) ∙ there })

@@ -187,7 +187,7 @@ unfolding forget
 left_words x s = record { settings = refl; clock = refl; ticked = refl; stopped = refl }
 
 framed : (c : Client) (d : Decision) (s : State) → frame true (decided c d s) ≡ frame true s
-framed c d s = frame_of (decided-stays {true} {frame true s} c d s (stays refl))
+framed c d s = frame_of (decided-stays {all = true} {o = frame true s} c d s (stays refl))
 
 pub taken_words : (c : Client) (d : Decision) (s : State) → SameWords s (taken c d (to_take d s))
 taken_words c d s =
@@ -251,7 +251,7 @@ pub cut_disk : (n : ℕ) (s : State) → SameDisk s (close_client n true (in_pha
 cut_disk n s = let done : SameDisk (in_phase Deciding s) (close_client n true (in_phase Deciding s)) = close_disk n true (in_phase Deciding s) in record { entries = done.entries; displaced = done.displaced }
 
 closed_frame : (n : ℕ) (s : State) → frame true (close_client n true (in_phase Deciding s)) ≡ frame true (in_phase Deciding s)
-closed_frame n s = frame_of (close_client-stays {true} {frame true (in_phase Deciding s)} n true (in_phase Deciding s) (stays refl))
+closed_frame n s = frame_of (close_client-stays {all = true} {o = frame true (in_phase Deciding s)} n true (in_phase Deciding s) (stays refl))
 
 pub cut_words : (n : ℕ) (s : State) → SameWords s (close_client n true (in_phase Deciding s))
 cut_words n s = record {

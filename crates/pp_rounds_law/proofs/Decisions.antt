@@ -6,7 +6,7 @@ use Rattle.pp_cache_law.proofs.Numbers.{some_is}
 use Rattle.pp_closings_law.specs.Sides.{MayClose}
 use Rattle.pp_decides_law.proofs.Sitting.{is_at}
 use Rattle.pp_decides_law.proofs.StandingOn.{find_at}
-use Rattle.pp_deciding_law.proofs.Behind.{stand}
+use Rattle.pp_deciding_law.proofs.Behind.{found_at, same_place, stand}
 use Rattle.pp_deciding_law.proofs.CutBehind.{cut_stand}
 use Rattle.pp_deciding_law.proofs.Cuts.{cuts_lead}
 use Rattle.pp_deciding_law.proofs.Found.{first_keeps, none_next}
@@ -73,21 +73,15 @@ noted_calm (Some x) h calm = (refl, (calm, tt))
 
 -- ---- whoever is found is there
 
-abbrev found_at : ℕ → SeatDue → Option (ℕ × SeatDue)
-found_at i d = Some (i, d)
-
 found_there : (shelf : KeptMap) (places : List ℕ) (p q : Turn) (i : ℕ) (d : SeatDue) → FirstDueInMemory shelf places p q (Some (i, d)) → slice_get q.seats.items i ≡ None → ⊥
 unfolding FirstDueInMemory
 found_there shelf [] p q i d first none = cc first.1
 found_there shelf (j ∷ places) p q i d (now, due, its, rest) none = by due its rest
   where
-    same_place : (e : SeatDue) → found_at i d ≡ found_at j e → i ≡ j
-    same_place e is = ap (λ (x : ℕ × SeatDue). x.0) (some_is {A = ℕ × SeatDue} (i, d) (j, e) is)
-
     nobody : (e : SeatDue) → q ≡ now → found_at i d ≡ found_at j e → due_at j now ≡ None
     nobody e same is =
         ap (λ (o : Option Seat). option_and_then (due_of now) o)
-        (ap (λ (r : Turn). slice_get r.seats.items j) (sym same) ∙ ap (λ (k : ℕ). slice_get q.seats.items k) (sym (same_place e is)) ∙ none)
+        (ap (λ (r : Turn). slice_get r.seats.items j) (sym same) ∙ ap (λ (k : ℕ). slice_get q.seats.items k) (sym (same_place i j d e is)) ∙ none)
 
     taken_by : (e : SeatDue) (b : Bool) → (elim b as (λ c. Type 0) [ true ↦ HasRowInMemory shelf (key_at j p) p now × (let o : Option SeatDue = Some e in o ≡ due_at j now) | false ↦ (now ≡ p) × (let o : Option SeatDue = Some e in o ≡ None) ]) → q ≡ now → found_at i d ≡ found_at j e → ⊥
     taken_by e true one same is = absurd (let both : Some e ≡ None = one.1 ∙ nobody e same is in cc both)
