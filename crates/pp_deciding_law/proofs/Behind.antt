@@ -1,5 +1,5 @@
 -- Behind a decision the turn stands as before it.
-use Rattle.std.proofs.Common.{◌≡◌, ◌⊎◌, ◌≤◌, ◌<◌, ◌+◌, inl, inr, refl, sym, subst, ap, ap₂, ◌∙◌, ℕ, zero, suc, Bool, true, false, ◌==◌, ◌||◌, cond, find, map, filter, length, List, [], ◌∷◌, Option, Some, None, option_map}
+use Rattle.std.proofs.Common.{◌≡◌, ◌⊎◌, ◌≤◌, ◌<◌, ◌+◌, inl, inr, refl, sym, subst, ap, ap₂, ◌∙◌, le_refl, ℕ, zero, suc, Bool, true, false, ◌==◌, ◌||◌, cond, find, map, filter, length, List, [], ◌∷◌, Option, Some, None, option_map}
 use Rattle.std.specs.Prelude.{slice_get, slice_set}
 use Rattle.pp_cache.specs.Bounds.{IsBounded}
 use Rattle.pp_cache.specs.Memory.{Memory}
@@ -49,7 +49,7 @@ use Rattle.pp_deciding_law.proofs.Disk.{in_place}
 use Rattle.pp_deciding_law.proofs.Found.{IsButForMemory, awake_on, first_keeps, first_notes_none, kept_on}
 use Rattle.pp_deciding_law.proofs.Keeps.{Keeps, keeps_then, set_length, takes_keep, way_keeps}
 use Rattle.pp_deciding_law.proofs.Law.{SameWords, row_kept, regained_as, taken_disk, taken_phase, taken_words}
-use Rattle.pp_deciding_law.proofs.Leads.{its, its_taking}
+use Rattle.pp_deciding_law.proofs.Leads.{found, its_taking}
 use Rattle.pp_deciding_law.specs.Behind.{DecisionsStand, IsBehind}
 use Rattle.pp_deciding_law.specs.Stands.{StandsBehind, StandsToDecide}
 use Rattle.pp_deciding_law.specs.Takes.{IsNext, RestsOn, TakesAsTheLaw, behind_taken, to_take}
@@ -109,11 +109,12 @@ module _ (m : Memory) where
 
   pub others_were : (places : List ℕ) (seats : List Seat) (j : ℕ) → has_number j places ≡ false → slice_get (all_regained m places seats) j ≡ slice_get seats j
   others_were [] seats j none = refl
-  others_were (i ∷ is) seats j none = by (i == j) refl none
+  others_were (i ∷ is) seats j none = by (i == j) refl none (λ isnt. others_were is (changed_at i (regained_seat m) seats) j isnt)
     where
-      by : (b : Bool) → (i == j) ≡ b → (b || has_number j is) ≡ false → slice_get (all_regained m is (changed_at i (regained_seat m) seats)) j ≡ slice_get seats j
-      by true same no = absurd (cc no)
-      by false apart no = others_were is (changed_at i (regained_seat m) seats) j no ∙ other_seat i seats j apart
+      by : (b : Bool) → (i == j) ≡ b → (b || has_number j is) ≡ false → (has_number j is ≡ false → slice_get (all_regained m is (changed_at i (regained_seat m) seats)) j ≡ slice_get (changed_at i (regained_seat m) seats) j)
+          → slice_get (all_regained m is (changed_at i (regained_seat m) seats)) j ≡ slice_get seats j
+      by true same isnt rest = absurd (cc isnt)
+      by false apart isnt rest = rest isnt ∙ other_seat i seats j apart
 
 -- ---- what is found is of one who is looked at
 
@@ -130,11 +131,11 @@ or_true false = refl
 pub found_in : (shelf : KeptMap) (places : List ℕ) (p q : Turn) (i : ℕ) (d : SeatDue) → FirstDueInMemory shelf places p q (found_at i d) → has_number i places ≡ true
 unfolding FirstDueInMemory
 found_in shelf [] p q i d first = absurd (cc first.1)
-found_in shelf (j ∷ places) p q i d (now, due, its, rest) = by due rest
+found_in shelf (j ∷ places) p q i d (now, due, its, rest) = by (λ more. found_in shelf places now q i d more) due rest
   where
-    by : (o : Option SeatDue) → (elim o as (λ c. Type 0) [ Some e ↦ (q ≡ now) × (found_at i d ≡ found_at j e) | None ↦ FirstDueInMemory shelf places now q (found_at i d) ]) → has_number i (j ∷ places) ≡ true
-    by (Some e) here = ap (λ (b : Bool). b || has_number i places) (same_test j i (sym (same_place i j d e here.1)))
-    by None more = ap (λ (b : Bool). (j == i) || b) (found_in shelf places now q i d more) ∙ or_true (j == i)
+    by : (FirstDueInMemory shelf places now q (found_at i d) → has_number i places ≡ true) → (o : Option SeatDue) → (elim o as (λ c. Type 0) [ Some e ↦ (q ≡ now) × (found_at i d ≡ found_at j e) | None ↦ FirstDueInMemory shelf places now q (found_at i d) ]) → has_number i (j ∷ places) ≡ true
+    by later (Some e) here = ap (λ (b : Bool). b || has_number i places) (same_test j i (sym (same_place i j d e here.1)))
+    by later None more = ap (λ (b : Bool). (j == i) || b) (later more) ∙ or_true (j == i)
 
 -- ---- what the law's client follows
 
@@ -230,11 +231,11 @@ module _ (number0 : ℕ → ℕ) (peers : List Peer) (shelf : KeptMap) (i : ℕ)
   abbrev turn : Turn
   turn = given_way due i q
 
-  found : IsFirst none_leaves peers shelf p q s (Some (i, IsDecidedDue due))
-  found = its number0 peers shelf i due p q s seat c between stands sound next rests it
+  abbrev first : IsFirst none_leaves peers shelf p q s (Some (i, IsDecidedDue due))
+  first = found number0 peers shelf i due p q s seat c between stands sound next rests it
 
   abbrev number : ℕ → ℕ
-  number = found.number
+  number = first.number
 
   takes_so : TakesAsTheLaw number i due peers q s seat c between
   takes_so = its_taking number0 peers shelf i due p q s seat c between stands sound next rests it
@@ -243,7 +244,7 @@ module _ (number0 : ℕ → ℕ) (peers : List Peer) (shelf : KeptMap) (i : ℕ)
   sound_then = subst (λ (v : State). IsSoundTurn v) takes_so.regains then
 
   before_table : ShowsTable number q.cache (with_row_if text s)
-  before_table = found.shows.turn.steps.shows.table.table
+  before_table = first.shows.turn.steps.shows.table.table
 
   -- ---- before attempts count anew
 
@@ -254,7 +255,7 @@ module _ (number0 : ℕ → ℕ) (peers : List Peer) (shelf : KeptMap) (i : ℕ)
   keeps_between = keeps_then q.cache i (parts q) (parts turn) between (way_keeps q.cache i (row_in_way due i q) q) (takes_keep q.cache i q.name.items due (parts turn) between row_there it)
 
   mid : Turn
-  mid = record r { seats = record r.seats { items = between.seats } }
+  mid = record r { seats = record r.seats { items = between.seats; len = length between.seats; cap = length between.seats; ok = (refl, le_refl (length between.seats)) } }
 
   mid_parts : parts mid ≡ between
   mid_parts = ap (λ (x : Parts). let y : Parts = record x { seats = between.seats } in y) behind.is
@@ -298,7 +299,7 @@ module _ (number0 : ℕ → ℕ) (peers : List Peer) (shelf : KeptMap) (i : ℕ)
   sourced = record { source = source_at_place t sound_then; made = made_at_place t sound_then }
 
   ready_mid : AreReady number r.cache t.next_instance between.seats
-  ready_mid = ready_now number r.name.items peers i q mid (with_row_if text s) t seat before_table found.shows.ready next.here keeps turn_mid.steps sourced
+  ready_mid = ready_now number r.name.items peers i q mid (with_row_if text s) t seat before_table first.shows.ready next.here keeps turn_mid.steps sourced
 
   follow_mid : AllFollow mid
   follow_mid j new at going = (ready_mid j new at going).follows

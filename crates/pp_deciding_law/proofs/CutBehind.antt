@@ -42,7 +42,7 @@ module _ (number0 : ℕ → ℕ) (peers later : List Peer) (shelf : KeptMap) (i 
   abbrev x : Sides
   x = record { parts = parts q; peers = peers }
 
-  first : IsFirst none_leaves peers shelf p q s (Some (i, IsCut cause))
+  abbrev first : IsFirst none_leaves peers shelf p q s (Some (i, IsCut cause))
   first = found number0 peers shelf i cause p q s seat c stands sound orderly next
 
   abbrev number : ℕ → ℕ

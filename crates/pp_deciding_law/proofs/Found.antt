@@ -44,11 +44,11 @@ both_keep p q r one two = ap (λ (t : Turn). record t { cache = p.cache }) two �
 pub first_keeps : (shelf : KeptMap) (places : List ℕ) (p q : Turn) (found : Option (ℕ × SeatDue)) → FirstDueInMemory shelf places p q found → IsButForMemory p q
 unfolding FirstDueInMemory
 first_keeps shelf [] p q found first = ap (λ (r : Turn). record r { cache = p.cache }) first.0
-first_keeps shelf (i ∷ places) p q found (now, due, its, rest) = by due rest
+first_keeps shelf (i ∷ places) p q found (now, due, its, rest) = by (λ more. first_keeps shelf places now q found more) due its rest
   where
-    by : (o : Option SeatDue) → (elim o as (λ c. Type 0) [ Some d ↦ (q ≡ now) × (found ≡ Some (i, d)) | None ↦ FirstDueInMemory shelf places now q found ]) → IsButForMemory p q
-    by (Some d) here = ap (λ (r : Turn). record r { cache = p.cache }) here.0 ∙ due_keeps shelf i p now due its
-    by None more = both_keep p now q (due_keeps shelf i p now due its) (first_keeps shelf places now q found more)
+    by : (FirstDueInMemory shelf places now q found → IsButForMemory now q) → (o : Option SeatDue) → IsDueInMemory shelf i p now o → (elim o as (λ c. Type 0) [ Some d ↦ (q ≡ now) × (found ≡ Some (i, d)) | None ↦ FirstDueInMemory shelf places now q found ]) → IsButForMemory p q
+    by later (Some d) one here = ap (λ (r : Turn). record r { cache = p.cache }) here.0 ∙ due_keeps shelf i p now (Some d) one
+    by later None one more = both_keep p now q (due_keeps shelf i p now None one) (later more)
 
 -- who is not looked at is asleep still
 pub awake_on : (p q : Turn) → IsButForMemory p q → AreAwake p → AreAwake q
@@ -83,11 +83,11 @@ due_notes_none shelf i p q due its = by (is_due_at shelf i p) its
 pub first_notes_none : (shelf : KeptMap) (places : List ℕ) (p q : Turn) (found : Option (ℕ × SeatDue)) → FirstDueInMemory shelf places p q found → q.cache.outdated ≡ p.cache.outdated
 unfolding FirstDueInMemory
 first_notes_none shelf [] p q found first = ap (λ (r : Turn). r.cache.outdated) first.0
-first_notes_none shelf (i ∷ places) p q found (now, due, its, rest) = by due rest
+first_notes_none shelf (i ∷ places) p q found (now, due, its, rest) = by (λ more. first_notes_none shelf places now q found more) due its rest
   where
-    by : (o : Option SeatDue) → (elim o as (λ c. Type 0) [ Some d ↦ (q ≡ now) × (found ≡ Some (i, d)) | None ↦ FirstDueInMemory shelf places now q found ]) → q.cache.outdated ≡ p.cache.outdated
-    by (Some d) here = ap (λ (r : Turn). r.cache.outdated) here.0 ∙ due_notes_none shelf i p now due its
-    by None more = first_notes_none shelf places now q found more ∙ due_notes_none shelf i p now due its
+    by : (FirstDueInMemory shelf places now q found → q.cache.outdated ≡ now.cache.outdated) → (o : Option SeatDue) → IsDueInMemory shelf i p now o → (elim o as (λ c. Type 0) [ Some d ↦ (q ≡ now) × (found ≡ Some (i, d)) | None ↦ FirstDueInMemory shelf places now q found ]) → q.cache.outdated ≡ p.cache.outdated
+    by later (Some d) one here = ap (λ (r : Turn). r.cache.outdated) here.0 ∙ due_notes_none shelf i p now (Some d) one
+    by later None one more = later more ∙ due_notes_none shelf i p now None one
 
 -- what is kept, and may come in, rests on these
 pub kept_on : (shelf : KeptMap) (m k : Memory) (s t : State) → k.outdated ≡ m.outdated → ((key : Bytes) → row_on_disk t key ≡ row_on_disk s key) → AreKept shelf m s → AreKept shelf k t

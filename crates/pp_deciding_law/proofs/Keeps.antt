@@ -86,7 +86,7 @@ closing_if false seat x same = refl
 interim_closing : (seat : Seat) → (with_interim seat).is_closing ≡ seat.is_closing
 interim_closing seat = closing_if _ seat _ refl
 
-set_length : (i : ℕ) (seats : List Seat) (new : Seat) → length (slice_set seats i new) ≡ length seats
+pub set_length : (i : ℕ) (seats : List Seat) (new : Seat) → length (slice_set seats i new) ≡ length seats
 set_length i [] new = refl
 set_length zero (seat ∷ seats) new = refl
 set_length (suc i) (seat ∷ seats) new = ap (λ (n : ℕ). suc n) (set_length i seats new)

@@ -110,7 +110,7 @@ module _ (number0 : ℕ → ℕ) (peers : List Peer) (shelf : KeptMap) (i : ℕ)
   abbrev u : State
   u = to_take due s
 
-  found : IsFirst none_leaves peers shelf p q s (Some (i, IsDecidedDue due))
+  pub found : IsFirst none_leaves peers shelf p q s (Some (i, IsDecidedDue due))
   found = first_dues number0 none_leaves peers shelf p q s (Some (i, IsDecidedDue due)) (shows_disk number0 peers shelf p s stands sound) stands.kept stands.awake next.first
 
   abbrev number : ℕ → ℕ
@@ -396,15 +396,9 @@ module _ (number0 : ℕ → ℕ) (peers : List Peer) (shelf : KeptMap) (i : ℕ)
   by_memory true memory = for_memory memory
   by_memory false more = for_more more
 
-  pub its : IsFirst none_leaves peers shelf p q s (Some (i, IsDecidedDue due))
-  its = found
-
-  pub its_open : IsUnbegun s c due
-  its_open = open_client
-
   pub its_taking : TakesAsTheLaw number i due peers q s seat c between
   its_taking = by_memory (is_for_memory due) refl
 
 pub leads : DecisionsLead
 leads number peers shelf i due p q s seat c between stands sound next rests it =
-    ((its number peers shelf i due p q s seat c between stands sound next rests it).number, its_taking number peers shelf i due p q s seat c between stands sound next rests it)
+    ((found number peers shelf i due p q s seat c between stands sound next rests it).number, its_taking number peers shelf i due p q s seat c between stands sound next rests it)

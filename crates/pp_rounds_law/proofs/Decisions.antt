@@ -76,7 +76,7 @@ noted_calm (Some x) h calm = (refl, (calm, tt))
 found_there : (shelf : KeptMap) (places : List ℕ) (p q : Turn) (i : ℕ) (d : SeatDue) → FirstDueInMemory shelf places p q (Some (i, d)) → slice_get q.seats.items i ≡ None → ⊥
 unfolding FirstDueInMemory
 found_there shelf [] p q i d first none = cc first.1
-found_there shelf (j ∷ places) p q i d (now, due, its, rest) none = by due its rest
+found_there shelf (j ∷ places) p q i d (now, due, its, rest) none = by (λ more. found_there shelf places now q i d more none) due its rest
   where
     nobody : (e : SeatDue) → q ≡ now → found_at i d ≡ found_at j e → due_at j now ≡ None
     nobody e same is =
@@ -87,9 +87,9 @@ found_there shelf (j ∷ places) p q i d (now, due, its, rest) none = by due its
     taken_by e true one same is = absurd (let both : Some e ≡ None = one.1 ∙ nobody e same is in cc both)
     taken_by e false one same is = absurd (cc one.1)
 
-    by : (o : Option SeatDue) → IsDueInMemory shelf j p now o → (elim o as (λ c. Type 0) [ Some e ↦ (q ≡ now) × (found_at i d ≡ found_at j e) | None ↦ FirstDueInMemory shelf places now q (Some (i, d)) ]) → ⊥
-    by (Some e) one here = taken_by e (is_due_at shelf j p) one here.0 here.1
-    by None one more = found_there shelf places now q i d more none
+    by : (FirstDueInMemory shelf places now q (found_at i d) → ⊥) → (o : Option SeatDue) → IsDueInMemory shelf j p now o → (elim o as (λ c. Type 0) [ Some e ↦ (q ≡ now) × (found_at i d ≡ found_at j e) | None ↦ FirstDueInMemory shelf places now q (Some (i, d)) ]) → ⊥
+    by later (Some e) one here = taken_by e (is_due_at shelf j p) one here.0 here.1
+    by later None one more = later more
 
 -- ---- one
 
