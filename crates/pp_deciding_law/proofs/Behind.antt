@@ -1,5 +1,5 @@
 -- Behind a decision the turn stands as before it.
-use Rattle.std.proofs.Common.{◌≡◌, ◌⊎◌, ◌≤◌, ◌<◌, ◌+◌, inl, inr, refl, sym, subst, ap, ap₂, ◌∙◌, le_refl, ℕ, zero, suc, Bool, true, false, ◌==◌, ◌||◌, cond, find, map, filter, length, List, [], ◌∷◌, Option, Some, None, option_map}
+use Rattle.std.proofs.Common.{◌≡◌, ◌⊎◌, ◌≤◌, ◌<◌, ◌+◌, inl, inr, refl, sym, subst, ap, ap₂, ◌∙◌, ℕ, zero, suc, Bool, true, false, ◌==◌, ◌||◌, cond, find, map, filter, length, List, [], ◌∷◌, Option, Some, None, option_map}
 use Rattle.std.specs.Prelude.{slice_get, slice_set}
 use Rattle.pp_cache.specs.Bounds.{IsBounded}
 use Rattle.pp_cache.specs.Memory.{Memory}
@@ -254,8 +254,11 @@ module _ (number0 : ℕ → ℕ) (peers : List Peer) (shelf : KeptMap) (i : ℕ)
   keeps_between : Keeps q.cache i (parts q) between
   keeps_between = keeps_then q.cache i (parts q) (parts turn) between (way_keeps q.cache i (row_in_way due i q) q) (takes_keep q.cache i q.name.items due (parts turn) between row_there it)
 
-  mid : Turn
-  mid = record r { seats = record r.seats { items = between.seats; len = length between.seats; cap = length between.seats; ok = (refl, le_refl (length between.seats)) } }
+  same_count : length r.seats.items ≡ length between.seats
+  same_count = ap (λ (x : Parts). length x.seats) behind.is ∙ regained_length between.cache q.awake.items between.seats
+
+  abbrev mid : Turn
+  mid = record r { seats = record r.seats { items = between.seats; ok = (r.seats.ok.0 ∙ same_count, r.seats.ok.1) } }
 
   mid_parts : parts mid ≡ between
   mid_parts = ap (λ (x : Parts). let y : Parts = record x { seats = between.seats } in y) behind.is

@@ -1,14 +1,15 @@
-//! What is due in a turn is found, and its decision is taken, as the law permits it and leads on.
+//! What is due in a turn is found and taken as the law permits it and leads on, and the turn stands behind it as before it.
 //!
-//! `specs/Stands.antt` has what a turn shows amid decisions; where nothing is found, nothing is due by the law, and all stands as before.
-//! `specs/Takes.antt` joins one decision: what `first_due` of `pp_due` finds is due in the law, the row that gives way leaves before it by
-//! a note that is permitted, its own note is permitted behind that, both lead to one state of the law, and what `take` of `pp_take` leaves
-//! shows that state before attempts count anew. `specs/Cuts.antt` joins one cut in the same way.
+//! `specs/Stands.antt` has what a turn shows amid decisions, and that where nothing is found nothing is due by the law. `Takes` and `Behind`
+//! join one decision: what `first_due` of `pp_due` finds is due in the law; the row that gives way leaves before it by a note that is
+//! permitted, and its own note is permitted behind that; both lead to one state of the law, which the turn shows once `take` of `pp_take` is
+//! done and attempts count anew; and there the turn stands as before, for the next one. `Cuts` joins one cut in the same way.
 //!
-//! Not said yet: that attempts that count anew, and what the next decision rests on, stand behind it; and all decisions of a turn.
+//! Not said: what a decision rests on beside what stands, as `RestsOn` lists it, each with its source; a turn in which memory is refused for
+//! a row; all decisions of a turn, one behind the other; and what follows them.
 //!
-//! To the layer above: each is the clause of a function that does nothing. It is one part of the proof that the program obeys the law:
-//! nothing is said here of a turn in which memory is refused for a row. Each premise has its source beside it in `specs/`.
+//! To the layer above: each is the clause of a function that does nothing. It is one part of the proof that the program obeys the law. The
+//! words of the program stand in `pp_due`, `pp_steps`, `pp_take` and `pp_desk`, which say of each function which it computes.
 //!
 //! Takes no memory, and does nothing when the program runs.
 #![tactic(auto)]
