@@ -1,13 +1,12 @@
 -- Behind a cut the turn stands as before it.
-use Rattle.std.proofs.Common.{◌≡◌, refl, sym, subst, ap, ◌∙◌, ℕ, Bool, true, false, ◌||◌, List, Option, Some, None}
-use Rattle.std.specs.Prelude.{slice_get}
+use Rattle.std.proofs.Common.{◌≡◌, sym, subst, ap, ◌∙◌, ℕ, true, ◌||◌, List, Option, Some, None}
 use Rattle.pp_cache.specs.Bounds.{IsBounded}
 use Rattle.pp_closings_law.specs.Sides.{MayClose, ShowsSides}
 use Rattle.pp_conf.specs.Conf.{Settings}
 use Rattle.pp_desk.specs.Closings.{Sides, closed_client}
 use Rattle.pp_flow_law.specs.Tables.{none_leaves}
 use Rattle.pp_law.specs.Lists.{Bytes, has_number}
-use Rattle.pp_law.specs.Opening.{is_at, is_same_phase}
+use Rattle.pp_law.specs.Opening.{is_same_phase}
 use Rattle.pp_law.specs.State.{State, Client, Phase, Reply, Stage, Undecided, Waiting, Passing, Answering, Deciding, DecidingAgain}
 use Rattle.pp_laws_turn.specs.SoundTurn.{IsSoundTurn}
 use Rattle.pp_peers.specs.declared.peers.Peer.{Peer}

@@ -1,28 +1,26 @@
 -- A cut that is found is permitted, and leads where the law leads.
-use Rattle.std.proofs.Common.{◌≡◌, ◌≤◌, refl, sym, subst, ap, ◌∙◌, ℕ, Bool, true, false, ◌==◌, ◌&&◌, not, find, List, [], ◌∷◌, Option, Some, None, option_map}
-use Rattle.std.specs.Prelude.{count_by, is_some, option_and_then, slice_get}
+use Rattle.std.proofs.Common.{◌≡◌, refl, sym, subst, ap, ◌∙◌, ℕ, true, false, ◌&&◌, not, List, [], Option, Some, None, option_map}
+use Rattle.std.specs.Prelude.{is_some, option_and_then, slice_get}
 use Rattle.pp_closings_law.proofs.Leaving.{leaves_client}
-use Rattle.pp_closings_law.specs.Clients.{IsAskOf, MayBeClosed}
+use Rattle.pp_closings_law.specs.Clients.{MayBeClosed}
 use Rattle.pp_closings_law.specs.Sides.{MayClose, ShowsSides}
 use Rattle.pp_decides_law.proofs.Sitting.{is_at, shown_at}
 use Rattle.pp_decides_law.specs.Decides.{FollowsWhatIsThere}
 use Rattle.pp_desk.specs.Closings.{Sides, closed_client}
 use Rattle.pp_due.specs.Due.{cut_of}
-use Rattle.pp_due.specs.Entering.{is_to_enter, key_at, key_due}
+use Rattle.pp_due.specs.Entering.{key_at, key_due}
 use Rattle.pp_flow_law.specs.Tables.{none_leaves}
 use Rattle.pp_law.specs.Closing.{close_client, is_of}
-use Rattle.pp_law.specs.Connections.{client, is_client}
-use Rattle.pp_law.specs.Due.{Due, CutOff, cut_in, due_of, first_due}
+use Rattle.pp_law.specs.Due.{CutOff, first_due}
 use Rattle.pp_law.specs.Lists.{Bytes}
-use Rattle.pp_law.specs.Phases.{decides, in_phase}
-use Rattle.pp_law.specs.State.{State, Client, Exchange, Deciding}
+use Rattle.pp_law.specs.Phases.{in_phase}
+use Rattle.pp_law.specs.State.{State, Client, Deciding}
 use Rattle.pp_laws.proofs.Lists.{in_find}
 use Rattle.pp_laws_turn.specs.SoundTurn.{IsSoundTurn}
 use Rattle.pp_obeys.proofs.Calls.{moves_to}
 use Rattle.pp_obeys.proofs.TurnHappenings.{cuts_due, goes_cut}
-use Rattle.pp_obeys.specs.Moves.{Goes, Leads}
+use Rattle.pp_obeys.specs.Moves.{Goes}
 use Rattle.pp_objects.specs.Instances.{is_there}
-use Rattle.pp_objects.specs.declared.id.ObjectId.{ObjectId}
 use Rattle.pp_peers.specs.declared.peers.Peer.{Peer}
 use Rattle.pp_seats.specs.Follows.{answer_in}
 use Rattle.pp_seats.specs.Heads.{asked_in, owned_in}
@@ -33,9 +31,8 @@ use Rattle.pp_seats.specs.Dues.{is_refused_in}
 use Rattle.pp_seats_law.proofs.Dues.{cuts}
 use Rattle.pp_seats_law.specs.Dues.{due_as}
 use Rattle.pp_seats_law.specs.Seats.{ShowsSeat}
-use Rattle.pp_state.specs.Ends.{Parts, parts, source_at, source_of}
+use Rattle.pp_state.specs.Ends.{parts, source_of}
 use Rattle.pp_state.specs.declared.state.State.{State as Turn}
-use Rattle.pp_steps_law.specs.Steps.{ShowsSteps}
 use Rattle.pp_store.specs.Kept.{KeptMap}
 use Rattle.pp_turns_law.proofs.AllDue.{cut_same}
 use Rattle.pp_turns_law.proofs.First.{first_dues}
@@ -49,7 +46,7 @@ use Rattle.pp_deciding_law.proofs.Disk.{shows_disk}
 use Rattle.pp_deciding_law.proofs.Due.{IsCutFor, cut_by, deciding_by, its_due}
 use Rattle.pp_deciding_law.proofs.Found.{IsButForMemory, first_keeps}
 use Rattle.pp_deciding_law.proofs.Framed.{steps_in}
-use Rattle.pp_deciding_law.specs.Cuts.{CutsAsTheLaw, CutsLead, IsCutNext, behind_cut}
+use Rattle.pp_deciding_law.specs.Cuts.{CutsAsTheLaw, CutsLead, IsCutNext}
 use Rattle.pp_deciding_law.specs.Stands.{StandsToDecide}
 
 -- ---- what it follows is there

@@ -1,16 +1,14 @@
 -- What stands amid decisions is what the search for the next one asks for.
-use Rattle.std.proofs.Common.{◌≡◌, ◌⊎◌, inl, inr, refl, sym, subst, ap, ap₂, ◌∙◌, ℕ, zero, suc, Bool, true, false, ◌||◌, List, [], ◌∷◌, bytes_eq, Option, Some, None}
+use Rattle.std.proofs.Common.{◌≡◌, inl, inr, refl, sym, subst, ap, ℕ, zero, suc, Bool, true, false, ◌||◌, List, [], ◌∷◌, bytes_eq, Option, Some, None}
 use Rattle.std.specs.List.{list_any}
 use Rattle.std.specs.Prelude.{is_some, slice_get}
-use Rattle.pp_cache.specs.Memory.{Memory}
 use Rattle.pp_cache_law.proofs.Alike.{rows_of}
 use Rattle.pp_cache_law.proofs.Numbers.{some_is}
 use Rattle.pp_cache_law.specs.Pairs.{AreBoth}
 use Rattle.pp_cache_law.specs.Tables.{ShowsInstance}
 use Rattle.pp_due.specs.OnDisk.{kept_alone}
 use Rattle.pp_flow_law.specs.Tables.{none_leaves}
-use Rattle.pp_law.specs.Lists.{Bytes}
-use Rattle.pp_law.specs.State.{State, Client, Entry, Instance as Known}
+use Rattle.pp_law.specs.State.{State, Instance as Known}
 use Rattle.pp_law.specs.Table.{row, row_on_disk}
 use Rattle.pp_laws.specs.Runs.{IsIn}
 use Rattle.pp_laws_turn.specs.SoundTurn.{IsSoundTurn}
@@ -20,7 +18,7 @@ use Rattle.pp_state.specs.declared.state.State.{State as Turn}
 use Rattle.pp_store.specs.Kept.{Kept, KeptMap, kept_of}
 use Rattle.pp_target.specs.Name.{name_of}
 use Rattle.pp_turns_law.specs.Rows.{IsKeptAs, ShowsDisk, ShowsKept}
-use Rattle.pp_deciding_law.specs.Stands.{AreKept, StandsToDecide}
+use Rattle.pp_deciding_law.specs.Stands.{StandsToDecide}
 
 pub in_place : {A : Type 0} (i : ℕ) (xs : List A) (x : A) → slice_get xs i ≡ Some x → IsIn x xs
 in_place i [] x at = absurd (cc at)

@@ -1,17 +1,17 @@
 -- The client to whom a decision is due goes on, and no reply of it has begun.
-use Rattle.std.proofs.Common.{◌≡◌, ◌⊎◌, ◌≤◌, ◌<◌, inl, inr, refl, sym, subst, ap, ap₂, ◌∙◌, ℕ, ◌+◌, Bool, true, false, ◌&&◌, ◌||◌, not, cond, find, List, [], ◌∷◌, Option, Some, None, option_map, arith}
-use Rattle.std.specs.Prelude.{count_by, is_ok, is_some}
+use Rattle.std.proofs.Common.{◌≡◌, ◌⊎◌, ◌≤◌, ◌<◌, inl, inr, refl, sym, subst, ap, ◌∙◌, ℕ, ◌+◌, Bool, true, false, ◌||◌, cond, find, List, [], ◌∷◌, Option, Some, None, arith}
+use Rattle.std.specs.Prelude.{count_by, is_ok}
 use Rattle.pp_cache_law.proofs.Numbers.{same_test, some_is}
 use Rattle.pp_cache_law.proofs.PairLemmas.{count_first}
-use Rattle.pp_law.specs.Connections.{client, is_client}
+use Rattle.pp_law.specs.Connections.{is_client}
 use Rattle.pp_law.specs.Due.{Due, Decide, CutOff, cut_in, due_by_stage, due_cut, due_decision, due_of, due_reply, first_due, give_up, has_lost_row, is_told}
 use Rattle.pp_law.specs.Decisions.{decide}
 use Rattle.pp_law.specs.Lists.{first_some, is_some_with}
 use Rattle.pp_law.specs.Opening.{is_at}
 use Rattle.pp_law.specs.Phases.{decides}
-use Rattle.pp_law.specs.Requests.{Front, Parsed, NoHeadYet, NoHead, IsRequest, expects_interim, parsed_in}
+use Rattle.pp_law.specs.Requests.{Front, Parsed, NoHeadYet, NoHead, IsRequest, expects_interim}
 use Rattle.pp_law.specs.Sharing.{due_undecided}
-use Rattle.pp_law.specs.Stages.{is_begun, is_undecided, reply_of}
+use Rattle.pp_law.specs.Stages.{is_begun}
 use Rattle.pp_law.specs.State.{State, Client, Reply, Stage, Undecided, Waiting, Passing, Answering, Deciding, DecidingAgain, Evicting, Phase}
 use Rattle.pp_obeys.proofs.Come.{place_of, same_phase}
 use Rattle.pp_obeys.proofs.TurnHappenings.{decides_again, decides_due}
@@ -21,7 +21,6 @@ use Rattle.pp_seats.specs.Heads.{asked_in}
 use Rattle.pp_seats.specs.declared.front.Asked.{Asked}
 use Rattle.pp_seats.specs.declared.front.Front.{Front as SeatFront}
 use Rattle.pp_seats.specs.declared.front.Front.TheVariants.{NoHeadYet as NoneYet, NoHead as NoneThere, Request as IsThere}
-use Rattle.pp_seats.specs.declared.key.Key.{Key as OwnedKey}
 use Rattle.pp_seats_law.specs.Decided.{expects_of}
 use Rattle.pp_seats_law.specs.Fronts.{ShowsFront}
 use Rattle.pp_world.specs.declared.note.Cause.{Cause}

@@ -11,7 +11,6 @@ use Rattle.pp_law.specs.Lists.{Bytes}
 use Rattle.pp_law.specs.State.{State, Entry}
 use Rattle.pp_law.specs.Table.{row_on_disk}
 use Rattle.pp_objects.specs.declared.id.ObjectId.{ObjectId}
-use Rattle.pp_peers.specs.declared.peers.Peer.{Peer}
 use Rattle.pp_seats.specs.declared.due.Due.{Due as SeatDue}
 use Rattle.pp_state.specs.declared.state.State.{State as Turn}
 use Rattle.pp_store.specs.Kept.{Kept, KeptMap, kept_of}
@@ -20,7 +19,7 @@ use Rattle.pp_turns_law.proofs.First.{first_dues}
 use Rattle.pp_turns_law.specs.Firsts.{AreAwake, FirstDueInMemory, HasRowInMemory, IsAsleep, IsDueInMemory, IsFirst}
 use Rattle.pp_turns_law.specs.Rows.{IsKeptAs}
 use Rattle.pp_deciding_law.proofs.Disk.{shows_disk}
-use Rattle.pp_deciding_law.specs.Stands.{AreKept, NoneIsNext, NoneIsTheLaws, StandsToDecide}
+use Rattle.pp_deciding_law.specs.Stands.{AreKept, NoneIsTheLaws}
 
 -- ---- all but what is in memory stays
 

@@ -1,15 +1,13 @@
 -- The phase, and for whom a row left memory, are no part of what is shown; and a kept row comes in beside them.
-use Rattle.std.proofs.Common.{◌≡◌, refl, sym, subst, ap, ◌∙◌, ℕ, Bool, true, false, ◌&&◌, not, cond, nat_lt, bytes_eq, List, [], ◌∷◌, Option, Some, None}
+use Rattle.std.proofs.Common.{◌≡◌, refl, sym, subst, ap, ◌∙◌, ℕ, Bool, true, false, cond, bytes_eq, List, [], ◌∷◌, Option, Some, None}
 use Rattle.std.proofs.lemmas.Slice.Eq.{bytes_eq-Decides}
-use Rattle.std.specs.Prelude.{is_some}
 use Rattle.pp_cache_law.proofs.Finds.{find_joined, first_of_two}
 use Rattle.pp_cache_law.proofs.Framing.{frames_of, the_same}
-use Rattle.pp_conf.specs.Conf.{Settings}
 use Rattle.pp_flow_law.proofs.Framed.{frames as flow_frames}
 use Rattle.pp_flow_law.specs.Tables.{Leaving}
 use Rattle.pp_law.specs.Connections.{exchange}
 use Rattle.pp_law.specs.Lists.{Bytes}
-use Rattle.pp_law.specs.State.{State, Client, Conn, Entry, Exchange, Instance as Known, Phase}
+use Rattle.pp_law.specs.State.{State, Entry, Instance as Known, Phase}
 use Rattle.pp_law.specs.Table.{add_row, forget, is_row_of, must_forget, row, row_on_disk}
 use Rattle.pp_peers.specs.declared.peers.Peer.{Peer}
 use Rattle.pp_states_law.proofs.Asked.{all_as, frames, itself}

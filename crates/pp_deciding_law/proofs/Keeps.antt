@@ -1,15 +1,14 @@
 -- What a decision leaves: the other clients, and of memory what was there. No instance comes in, and no entry is outdated by it.
-use Rattle.std.proofs.Common.{◌≡◌, ◌⊎◌, ◌≤◌, inl, inr, refl, sym, subst, ap, ap₂, ◌∙◌, ℕ, zero, suc, Bool, true, false, ◌==◌, ◌&&◌, not, cond, nat_lt, length, List, [], ◌∷◌, Option, Some, None, le_refl, le_trans}
-use Rattle.std.specs.Prelude.{option_and_then, option_map, slice_get, slice_set}
+use Rattle.std.proofs.Common.{◌≡◌, ◌⊎◌, inl, inr, refl, sym, subst, ap, ◌∙◌, ℕ, zero, suc, Bool, true, false, ◌==◌, cond, length, List, [], ◌∷◌, Option, Some, None, le_refl, le_trans}
+use Rattle.std.specs.Prelude.{option_map, slice_get, slice_set}
 use Rattle.pp_cache.specs.Memory.{Memory}
 use Rattle.pp_cache_law.proofs.Moves.{in_slot-elsewhere, in_slot-gone}
 use Rattle.pp_cache_law.proofs.Numbers.{is_same, some_is}
 use Rattle.pp_decides_law.proofs.Changed.{get_set}
 use Rattle.pp_decides_law.proofs.Moved.{there_moved}
-use Rattle.pp_decides_law.proofs.Quitting.{left_memory}
 use Rattle.pp_decides_law.proofs.Refused.{left_stands}
 use Rattle.pp_decides_law.proofs.Regained.{get_other}
-use Rattle.pp_decides_law.proofs.Sitting.{interim_front, interim_number, interim_source}
+use Rattle.pp_decides_law.proofs.Sitting.{interim_front, interim_source}
 use Rattle.pp_decides_law.proofs.StandingRow.{followed_by_one, more_stands}
 use Rattle.pp_desk.specs.Closings.{Sides, closed_client, closing_at, left_at, left_by_errand, left_own, with_parts, withdrawn}
 use Rattle.pp_flow.specs.Changes.{Exchanges, entry_of}
@@ -22,10 +21,7 @@ use Rattle.pp_objects.specs.Changes.{without_slot}
 use Rattle.pp_objects.specs.Instances.{Instance, id_of, in_slot, is_life, is_there}
 use Rattle.pp_objects.specs.declared.id.ObjectId.{ObjectId}
 use Rattle.pp_seats.specs.Accounts.{decided}
-use Rattle.pp_seats.specs.Decided.{answering, asking, paged, with_interim}
-use Rattle.pp_seats.specs.declared.account.Account.{Account}
-use Rattle.pp_seats.specs.declared.front.Front.{Front}
-use Rattle.pp_seats.specs.declared.seat.Brought.{Brought}
+use Rattle.pp_seats.specs.Decided.{answering, asking, with_interim}
 use Rattle.pp_seats.specs.declared.seat.Brought.TheVariants.{Joins}
 use Rattle.pp_seats.specs.declared.seat.Seat.{Seat}
 use Rattle.pp_seats.specs.declared.seat.Stage.{Stage}
@@ -37,7 +33,7 @@ use Rattle.pp_state.specs.Places.{IsChangedIn}
 use Rattle.pp_state.specs.declared.state.State.{State as Turn}
 use Rattle.pp_steps.specs.Evicting.{without_row}
 use Rattle.pp_steps_law.proofs.Told.{Stands}
-use Rattle.pp_take.specs.Deciding.{Ask, Does, GetsPage, IsPaged, IsPagedIf, IsRefused, Takes, accounted, aim_for, answered_at, ask_at, asked_by, asked_with, begun_at, exchange_begun, followed_at, followed_by, followed_more, following, is_pass, is_served_by, left_all, left_if_useless, left_useless, marked_at, marked_for, may_follow, origin_asked, relayed, row_at, row_followed, with_marked}
+use Rattle.pp_take.specs.Deciding.{Ask, Does, GetsPage, IsPaged, IsPagedIf, IsRefused, Takes, accounted, aim_for, answered_at, ask_at, asked_by, asked_with, begun_at, exchange_begun, followed_at, followed_by, followed_more, following, is_pass, is_served_by, left_all, left_if_useless, left_useless, marked_for, may_follow, origin_asked, relayed, row_at, row_followed, with_marked}
 use Rattle.pp_world.specs.declared.note.Decision.{Decision}
 use Rattle.pp_world.specs.declared.note.Decision.TheVariants.{Refuse, Hit, Part, Head, NotModified, Unsatisfiable, Relay, Validate, Fetch, Pass}
 

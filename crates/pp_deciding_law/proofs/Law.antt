@@ -1,11 +1,10 @@
 -- What a decision and a cut keep of the law's state: what is kept on the disk, what is set, and the phase.
-use Rattle.std.proofs.Common.{◌≡◌, refl, sym, ap, ◌∙◌, ℕ, Bool, true, false, ◌==◌, ◌||◌, not, nat_lt, find, List, [], ◌∷◌, Option, Some, None, Ok, Err, Result}
+use Rattle.std.proofs.Common.{◌≡◌, refl, ap, ◌∙◌, ℕ, Bool, true, false, ◌==◌, ◌||◌, not, nat_lt, find, List, [], ◌∷◌, Option, Some, None, Ok, Err, Result}
 use Rattle.pp_ask.specs.declared.kind.AskKind.{AskKind}
-use Rattle.pp_conf.specs.Conf.{Settings}
 use Rattle.pp_decides_law.specs.Takes.{taken}
 use Rattle.pp_decides_law.specs.Ways.{left_for}
 use Rattle.pp_head.specs.Request.{Request}
-use Rattle.pp_law.specs.Closing.{close_client, exchanges_of, forsake, is_of, leave, leave_one, left_alone}
+use Rattle.pp_law.specs.Closing.{close_client, exchanges_of, forsake, leave, leave_one, left_alone}
 use Rattle.pp_law.specs.Connections.{each_exchange, end_exchange, exchange, on_client, on_exchange}
 use Rattle.pp_law.specs.Deciding.{add_exchange, ask_as, ask_for, ask_origin, begin_exchange, decided, decided_by, enter_row, follow, follow_row, follow_with, is_for_memory, mark_row_of, refuse, relay}
 use Rattle.pp_law.specs.Decisions.{kind_of}
@@ -15,9 +14,9 @@ use Rattle.pp_law.specs.Lists.{Bytes, has_text}
 use Rattle.pp_law.specs.Phases.{in_phase}
 use Rattle.pp_law.specs.Replies.{regained}
 use Rattle.pp_law.specs.Requests.{Front, Parsed, NoHeadYet, NoHead, IsRequest, key_in}
-use Rattle.pp_law.specs.State.{State, Client, Entry, Exchange, Instance as Known, Phase, Reply, Deciding}
+use Rattle.pp_law.specs.State.{State, Client, Entry, Exchange, Instance as Known, Reply, Deciding}
 use Rattle.pp_law.specs.Table.{add_row, enter, forget, forget_row, idle_row, is_kept_row_of, mark_row, row, row_for, row_on_disk, rows, swept, with_room}
-use Rattle.pp_obeys.proofs.Frames.{Frame, Stays, frame, frame_of, stays}
+use Rattle.pp_obeys.proofs.Frames.{Frame, frame, frame_of, stays}
 use Rattle.pp_obeys.proofs.StaysAsks.{decided-stays}
 use Rattle.pp_obeys.proofs.StaysTable.{close_client-stays}
 use Rattle.pp_target.specs.Key.{Key, text_of}

@@ -1,7 +1,7 @@
 -- A decision that is found is permitted, and leads where the law leads.
-use Rattle.std.proofs.Common.{◌≡◌, ◌≤◌, refl, sym, subst, ap, ap₂, ◌∙◌, ℕ, Bool, true, false, ◌&&◌, ◌||◌, not, nat_lt, find, length, List, [], ◌∷◌, ◌++◌, Option, Some, None, option_map, arith}
+use Rattle.std.proofs.Common.{◌≡◌, ◌≤◌, refl, sym, subst, ap, ap₂, ◌∙◌, ℕ, Bool, true, false, ◌&&◌, ◌||◌, not, nat_lt, find, List, [], ◌∷◌, ◌++◌, Option, Some, None, option_map, arith}
 use Rattle.std.proofs.lemmas.Bool.Decides.{nat_tests}
-use Rattle.std.specs.List.{filter_map, list_any}
+use Rattle.std.specs.List.{list_any}
 use Rattle.std.specs.Prelude.{count_by, is_some, option_and_then, slice_get}
 use Rattle.pp_cache_law.proofs.Alike.{room_of}
 use Rattle.pp_cache_law.proofs.Numbers.{some_is}
@@ -20,13 +20,12 @@ use Rattle.pp_flow_law.specs.Tables.{none_leaves}
 use Rattle.pp_law.specs.After.{take_decision}
 use Rattle.pp_law.specs.Closing.{is_of, is_over}
 use Rattle.pp_law.specs.Connections.{client, is_client, is_conn}
-use Rattle.pp_law.specs.Deciding.{decided, has_to_forget, is_for_memory}
-use Rattle.pp_law.specs.Due.{Due, Decide, decides_for, due_of, first_due, next_due}
+use Rattle.pp_law.specs.Deciding.{has_to_forget, is_for_memory}
+use Rattle.pp_law.specs.Due.{Due, Decide, decides_for, due_of, first_due}
 use Rattle.pp_law.specs.Leaving.{forgets_next}
 use Rattle.pp_law.specs.Lists.{Bytes, is_some_with}
 use Rattle.pp_law.specs.Permits.{has_room_for}
 use Rattle.pp_law.specs.Phases.{decides, in_phase}
-use Rattle.pp_law.specs.Replies.{regained}
 use Rattle.pp_law.specs.Requests.{key_in}
 use Rattle.pp_law.specs.State.{State, Client, Conn, Entry, Exchange, Instance as Known, Deciding}
 use Rattle.pp_law.specs.Table.{forget, idle_row, must_forget, row, row_on_disk, rows}
@@ -63,7 +62,7 @@ use Rattle.pp_deciding_law.proofs.Due.{IsUnbegun, deciding_by, expected, its_due
 use Rattle.pp_deciding_law.proofs.Framed.{IsBeside, beside_then, forget_beside, row_beside, row_in, rows_in, there_then}
 use Rattle.pp_deciding_law.proofs.Found.{IsButForMemory, first_keeps}
 use Rattle.pp_deciding_law.specs.Stands.{StandsToDecide}
-use Rattle.pp_deciding_law.specs.Takes.{DecisionsLead, IsNext, RestsOn, TakesAsTheLaw, behind_taken, room_made, to_take}
+use Rattle.pp_deciding_law.specs.Takes.{DecisionsLead, IsNext, RestsOn, TakesAsTheLaw, room_made, to_take}
 
 -- ---- a row that gives way leaves all but what is in memory
 

@@ -1,5 +1,5 @@
 -- What a turn shows amid decisions, and where none is due (RFC 2616, section 8.1; the order is ours).
-use Rattle.std.specs.Prelude.{◌≡◌, ℕ, Bool, true, false, ◌||◌, bytes_eq, List, Option, Some, None}
+use Rattle.std.specs.Prelude.{◌≡◌, ℕ, true, false, ◌||◌, bytes_eq, List, None}
 use Rattle.std.specs.List.{list_any}
 use Rattle.pp_cache.specs.Memory.{Memory}
 use Rattle.pp_cache_law.specs.Kept.{AreAsKept}

@@ -1,6 +1,6 @@
 -- A decision that is found is permitted, behind the row that gives way to it, and leads where the law leads (RFC 2616, sections 6, 8.1.4
 -- and 13; the order is ours).
-use Rattle.std.specs.Prelude.{◌≡◌, ◌≤◌, ℕ, Bool, true, false, ◌||◌, not, List, [], ◌∷◌, ◌++◌, is_some, length, slice_get, Option, Some, None}
+use Rattle.std.specs.Prelude.{◌≡◌, ◌≤◌, ℕ, true, false, ◌||◌, not, List, [], ◌∷◌, ◌++◌, is_some, length, slice_get, Some, None}
 use Rattle.std.specs.List.{filter_map, list_any}
 use Rattle.pp_decides_law.specs.Takes.{MayDo, taken}
 use Rattle.pp_decides_law.specs.Ways.{left_for}
@@ -31,7 +31,6 @@ use Rattle.pp_steps_law.specs.Steps.{ShowsSteps}
 use Rattle.pp_store.specs.Kept.{KeptMap}
 use Rattle.pp_take.specs.Deciding.{Takes, afforded}
 use Rattle.pp_turns_law.specs.Firsts.{FirstDueInMemory, with_row_if}
-use Rattle.pp_world.specs.Log.{Log}
 use Rattle.pp_world.specs.declared.happening.Happening.TheVariants.{Noted}
 use Rattle.pp_world.specs.declared.note.Decision.{Decision}
 use Rattle.pp_world.specs.declared.note.Remark.TheVariants.{Taken}
