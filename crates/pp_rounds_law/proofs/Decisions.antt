@@ -1,8 +1,7 @@
 -- All decisions lead on, one behind the other.
-use Rattle.std.proofs.Common.{◌≡◌, refl, sym, subst, ap, ap₂, ◌∙◌, ℕ, zero, suc, Bool, true, false, not, List, [], ◌∷◌, ◌++◌, append_assoc, append-nil, Option, Some, None, option_map}
+use Rattle.std.proofs.Common.{◌≡◌, refl, sym, subst, ap, ◌∙◌, ℕ, zero, suc, Bool, true, false, List, [], ◌∷◌, ◌++◌, append_assoc, append-nil, Option, Some, None, option_map}
 use Rattle.std.specs.Prelude.{option_and_then, slice_get, ⊤}
 use Rattle.pp_cache.specs.Bounds.{IsBounded}
-use Rattle.pp_cache_law.proofs.Numbers.{some_is}
 use Rattle.pp_closings_law.specs.Sides.{MayClose}
 use Rattle.pp_decides_law.proofs.Sitting.{is_at}
 use Rattle.pp_decides_law.proofs.StandingOn.{find_at}
@@ -13,7 +12,7 @@ use Rattle.pp_deciding_law.proofs.Found.{first_keeps, none_next}
 use Rattle.pp_deciding_law.proofs.Leads.{leads}
 use Rattle.pp_deciding_law.specs.Behind.{IsBehind}
 use Rattle.pp_deciding_law.specs.Cuts.{CutsAsTheLaw, IsBehindCut, IsCutNext, behind_cut}
-use Rattle.pp_deciding_law.specs.Stands.{NoneIsNext, StandsBehind, StandsToDecide}
+use Rattle.pp_deciding_law.specs.Stands.{NoneIsNext, StandsBehind}
 use Rattle.pp_deciding_law.specs.Takes.{IsNext, RestsOn, TakesAsTheLaw, behind_taken}
 use Rattle.pp_desk.specs.Closings.{Sides, closed_client, sides}
 use Rattle.pp_desk.specs.declared.desk.Desk.{Desk}
@@ -22,28 +21,26 @@ use Rattle.pp_due.specs.Entering.{FirstDue, is_due_at, key_at}
 use Rattle.pp_flow_law.specs.Tables.{none_leaves}
 use Rattle.pp_law.specs.After.{after}
 use Rattle.pp_law.specs.Connections.{client}
-use Rattle.pp_law.specs.Opening.{may_fail}
 use Rattle.pp_law.specs.State.{State, Client, Term}
 use Rattle.pp_laws_turn.proofs.Laws.{sound_turns}
 use Rattle.pp_laws_turn.specs.SoundTurn.{IsSoundTurn}
 use Rattle.pp_obeys.proofs.Happenings.{obeys_by}
 use Rattle.pp_obeys.proofs.Moving.{lead_joined}
-use Rattle.pp_obeys.specs.Moves.{Goes, Leads, MovesAll}
+use Rattle.pp_obeys.specs.Moves.{Leads}
 use Rattle.pp_obeys.specs.Failures.{fails}
 use Rattle.pp_obeys.specs.Obeys.{Obeys}
 use Rattle.pp_objects.specs.Instances.{Instance}
 use Rattle.pp_peers.specs.declared.peers.Peer.{Peer}
 use Rattle.pp_proxy.specs.Deciding.{Decides, TakesOne}
 use Rattle.pp_proxy.specs.Moving.{Moving, with_state}
-use Rattle.pp_proxy.specs.Taking.{IsTaken, TakesDueFor, TakesDueOf, decision_log, due_log_of, who_at}
+use Rattle.pp_proxy.specs.Taking.{IsTaken, TakesDueOf, decision_log, due_log_of, who_at}
 use Rattle.pp_seats.specs.declared.due.Due.{Due as SeatDue}
 use Rattle.pp_seats.specs.declared.due.Due.TheVariants.{Decide, CutOff}
 use Rattle.pp_seats.specs.declared.seat.Seat.{Seat}
-use Rattle.pp_state.specs.Ends.{KeepsRest, Parts, parts}
+use Rattle.pp_state.specs.Ends.{parts}
 use Rattle.pp_state.specs.declared.state.State.{State as Turn}
-use Rattle.pp_steps.specs.Evicting.{given_way, row_in_way, row_notes}
+use Rattle.pp_steps.specs.Evicting.{row_in_way, row_notes}
 use Rattle.pp_store.specs.Kept.{KeptMap}
-use Rattle.pp_take.specs.Deciding.{Takes, afforded}
 use Rattle.pp_turns_law.proofs.First.{IsShownAt, seat_shown}
 use Rattle.pp_turns_law.specs.Firsts.{FirstDueInMemory, HasRowInMemory, IsDueInMemory}
 use Rattle.pp_turns_law.specs.Turns.{ShowsTurn}
@@ -52,8 +49,8 @@ use Rattle.pp_world.specs.declared.happening.Happening.{Happening}
 use Rattle.pp_world.specs.declared.happening.Happening.TheVariants.{Noted}
 use Rattle.pp_world.specs.declared.note.Cause.{Cause}
 use Rattle.pp_world.specs.declared.note.Decision.{Decision}
-use Rattle.pp_world.specs.declared.note.Remark.TheVariants.{Cut, Forgotten, Taken}
-use Rattle.pp_rounds_law.specs.Decisions.{AllDecided, AllLead, Supplies}
+use Rattle.pp_world.specs.declared.note.Remark.TheVariants.{Cut, Taken}
+use Rattle.pp_rounds_law.specs.Decisions.{AllDecided, AllLead, Passes, Supplies}
 
 -- ---- a log that goes on so
 
@@ -190,27 +187,35 @@ Then more shelf x found log y any due = elim due [
   | Some d ↦ (next : Moving) × (first : Log) × (rest : Log) × (later : Bool) × (log ≡ first ++ rest) × TakesOne d.0 d.1 (with_state found x) first next × Decides more shelf next rest y later × (any ≡ true)
 ]
 
-pub all_lead : AllLead
+abbrev Onward : List Term → KeptMap → (Turn → State → Type 0) → ℕ → Moving → Type 0
+Onward terms shelf I more y = (before : Log) (x : Moving) (log : Log) (any : Bool) (s : State) → Obeys terms s before → StandsBehind x.desk.peers shelf x.desk.state s → I x.desk.state s → Decides more shelf x log y any → AllDecided shelf I y log s
+
+one_more : (terms : List Term) (shelf : KeptMap) (I : Turn → State → Type 0) (more : ℕ) (y : Moving) → Supplies shelf I → Onward terms shelf I more y → (before : Log) (x : Moving) (log : Log) (any : Bool) (s : State) → Obeys terms s before → StandsBehind x.desk.peers shelf x.desk.state s → I x.desk.state s
+    → (found : Turn) (due : Option (ℕ × SeatDue)) → FirstDue shelf x.desk.state.awake.items x.desk.state found due → Then more shelf x found log y any due → AllDecided shelf I y log s
+one_more terms shelf I more y supplies onward before x log any s obeys stands holds found None looked here =
+    let given : FirstDueInMemory shelf x.desk.state.awake.items x.desk.state found None = supplies.given x.desk.state found s None holds looked in
+    let none : NoneIsNext x.desk.peers shelf found s = none_next stands.number x.desk.peers shelf x.desk.state found s stands.stands (sound_turns terms s before obeys) given in
+    subst (λ (z : Moving). AllDecided shelf I z log s) (sym here.1)
+    (subst (λ (hs : Log). AllDecided shelf I (with_state found x) hs s) (sym here.0) (record { then = s; leads = refl; stands = none.behind; holds = supplies.none x.desk.state found s holds given }))
+one_more terms shelf I more y supplies onward before x log any s obeys stands holds found (Some d) looked (next, one, others, later, is, takes, more_of, any_is) =
+    let given : FirstDueInMemory shelf x.desk.state.awake.items x.desk.state found (Some d) = supplies.given x.desk.state found s (Some d) holds looked in
+    let step : Stepped shelf I next one s =
+    stepped terms before shelf I supplies s obeys x.desk.peers x.desk.state found stands holds (with_state found x) next one d.0 refl refl d.1 given (client_at terms before shelf I supplies s obeys x.desk.peers x.desk.state found stands holds d.0 d.1 given) takes in
+    let behind : Obeys terms step.then (before ++ one) = obeys_along terms one before s step.then step.calm obeys step.leads_on in
+    let last : AllDecided shelf I y others step.then = onward (before ++ one) next others later step.then behind step.stands step.holds more_of in
+    record {
+      then = last.then;
+      leads = subst (λ (hs : Log). Leads hs s last.then) (sym is) (lead_joined one others s step.then last.then step.leads_on last.leads);
+      stands = last.stands;
+      holds = last.holds;
+    }
+
+pub decides_on : (terms : List Term) (shelf : KeptMap) (I : Turn → State → Type 0) (more : ℕ) (y : Moving) → Supplies shelf I → Onward terms shelf I more y
 unfolding Decides
-all_lead terms before shelf I zero x y log any s supplies obeys stands holds it =
+decides_on terms shelf I zero y supplies before x log any s obeys stands holds it =
     subst (λ (z : Moving). AllDecided shelf I z log s) (sym it.1) (subst (λ (hs : Log). AllDecided shelf I x hs s) (sym it.0) (record { then = s; leads = refl; stands = stands; holds = holds }))
-all_lead terms before shelf I (suc more) x y log any s supplies obeys stands holds (found, due, first, rest) = by due first rest
-  where
-    by : (o : Option (ℕ × SeatDue)) → FirstDue shelf x.desk.state.awake.items x.desk.state found o → Then more shelf x found log y any o → AllDecided shelf I y log s
-    by None looked here =
-        let given : FirstDueInMemory shelf x.desk.state.awake.items x.desk.state found None = supplies.given x.desk.state found s None holds looked in
-        let none : NoneIsNext x.desk.peers shelf found s = none_next stands.number x.desk.peers shelf x.desk.state found s stands.stands (sound_turns terms s before obeys) given in
-        subst (λ (z : Moving). AllDecided shelf I z log s) (sym here.1)
-        (subst (λ (hs : Log). AllDecided shelf I (with_state found x) hs s) (sym here.0) (record { then = s; leads = refl; stands = none.behind; holds = supplies.none x.desk.state found s holds given }))
-    by (Some d) looked (next, one, others, later, is, takes, more_of, any_is) =
-        let given : FirstDueInMemory shelf x.desk.state.awake.items x.desk.state found (Some d) = supplies.given x.desk.state found s (Some d) holds looked in
-        let step : Stepped shelf I next one s =
-        stepped terms before shelf I supplies s obeys x.desk.peers x.desk.state found stands holds (with_state found x) next one d.0 refl refl d.1 given (client_at terms before shelf I supplies s obeys x.desk.peers x.desk.state found stands holds d.0 d.1 given) takes in
-        let behind : Obeys terms step.then (before ++ one) = obeys_along terms one before s step.then step.calm obeys step.leads_on in
-        let last : AllDecided shelf I y others step.then = all_lead terms (before ++ one) shelf I more next y others later step.then supplies behind step.stands step.holds more_of in
-        record {
-          then = last.then;
-          leads = subst (λ (hs : Log). Leads hs s last.then) (sym is) (lead_joined one others s step.then last.then step.leads_on last.leads);
-          stands = last.stands;
-          holds = last.holds;
-        }
+decides_on terms shelf I (suc more) y supplies before x log any s obeys stands holds (found, due, first, rest) =
+    one_more terms shelf I more y supplies (decides_on terms shelf I more y supplies) before x log any s obeys stands holds found due first rest
+
+pub all_lead : AllLead
+all_lead terms before shelf test more x y log any s supplies obeys stands holds it = decides_on terms shelf (Passes test) more y supplies before x log any s obeys stands holds it

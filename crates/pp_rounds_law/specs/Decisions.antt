@@ -1,18 +1,16 @@
 -- All that is decided in one go, one behind the other, leads where the law leads (RFC 2616, section 8.1; the order is ours).
-use Rattle.std.specs.Prelude.{◌≡◌, ℕ, ◌++◌, Bool, List, slice_get, Option, Some, None}
+use Rattle.std.specs.Prelude.{◌≡◌, ℕ, Bool, true, List, Option, None}
 use Rattle.pp_cache.specs.Bounds.{IsBounded}
 use Rattle.pp_closings_law.specs.Sides.{MayClose}
 use Rattle.pp_deciding_law.specs.Cuts.{IsCutNext, behind_cut}
-use Rattle.pp_deciding_law.specs.Stands.{StandsBehind, StandsToDecide}
+use Rattle.pp_deciding_law.specs.Stands.{StandsBehind}
 use Rattle.pp_deciding_law.specs.Takes.{IsNext, RestsOn, behind_taken}
 use Rattle.pp_due.specs.Entering.{FirstDue}
 use Rattle.pp_law.specs.State.{State, Client, Term}
-use Rattle.pp_laws_turn.specs.SoundTurn.{IsSoundTurn}
 use Rattle.pp_obeys.specs.Moves.{Leads}
 use Rattle.pp_obeys.specs.Obeys.{Obeys}
-use Rattle.pp_peers.specs.declared.peers.Peer.{Peer}
 use Rattle.pp_proxy.specs.Deciding.{Decides, TakesOne}
-use Rattle.pp_proxy.specs.Moving.{Moving, with_state}
+use Rattle.pp_proxy.specs.Moving.{Moving}
 use Rattle.pp_seats.specs.declared.due.Due.{Due as SeatDue}
 use Rattle.pp_seats.specs.declared.due.Due.TheVariants.{Decide, CutOff}
 use Rattle.pp_seats.specs.declared.seat.Seat.{Seat}
@@ -44,6 +42,10 @@ pub record AllDecided (shelf : KeptMap) (I : Turn → State → Type 0) (y : Mov
   pub stands : StandsBehind y.desk.peers shelf y.desk.state then
   pub holds : I y.desk.state then
 
+-- of what passes a test
+abbrev pub Passes : (Turn → State → Bool) → Turn → State → Type 0
+Passes test p s = test p s ≡ true
+
 abbrev pub AllLead : Type 0
-AllLead = (terms : List Term) (before : Log) (shelf : KeptMap) (I : Turn → State → Type 0) (more : ℕ) (x y : Moving) (log : Log) (any : Bool) (s : State) → Supplies shelf I → Obeys terms s before → StandsBehind x.desk.peers shelf x.desk.state s → I x.desk.state s
-    → Decides more shelf x log y any → AllDecided shelf I y log s
+AllLead = (terms : List Term) (before : Log) (shelf : KeptMap) (test : Turn → State → Bool) (more : ℕ) (x y : Moving) (log : Log) (any : Bool) (s : State) → Supplies shelf (Passes test) → Obeys terms s before → StandsBehind x.desk.peers shelf x.desk.state s → Passes test x.desk.state s
+    → Decides more shelf x log y any → AllDecided shelf (Passes test) y log s
