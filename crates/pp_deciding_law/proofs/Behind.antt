@@ -46,7 +46,7 @@ use Rattle.pp_seats.specs.declared.due.Due.{Due as SeatDue}
 use Rattle.pp_seats.specs.declared.due.Due.TheVariants.{Decide as IsDecidedDue}
 use Rattle.pp_world.specs.declared.note.Decision.{Decision}
 use Rattle.pp_deciding_law.proofs.Disk.{in_place}
-use Rattle.pp_deciding_law.proofs.Found.{IsButForMemory, awake_on, first_keeps, first_notes_none, kept_on}
+use Rattle.pp_deciding_law.proofs.Found.{found_at, same_place, IsButForMemory, awake_on, first_keeps, first_notes_none, kept_on}
 use Rattle.pp_deciding_law.proofs.Keeps.{Keeps, keeps_then, set_length, takes_keep, way_keeps}
 use Rattle.pp_deciding_law.proofs.Law.{SameWords, row_kept, regained_as, taken_disk, taken_phase, taken_words}
 use Rattle.pp_deciding_law.proofs.Leads.{found, its_taking}
@@ -118,12 +118,6 @@ module _ (m : Memory) where
 
 -- ---- what is found is of one who is looked at
 
-abbrev pub found_at : ℕ → SeatDue → Option (ℕ × SeatDue)
-found_at i d = Some (i, d)
-
-pub same_place : (i k : ℕ) (d e : SeatDue) → found_at i d ≡ found_at k e → i ≡ k
-same_place i k d e same = let pair : ◌≡◌ {A = ℕ × SeatDue} (i, d) (k, e) = cc same in ap (λ (x : ℕ × SeatDue). x.0) pair
-
 or_true : (b : Bool) → (b || true) ≡ true
 or_true true = refl
 or_true false = refl
@@ -134,7 +128,7 @@ found_in shelf [] p q i d first = absurd (cc first.1)
 found_in shelf (j ∷ places) p q i d (now, due, its, rest) = by (λ more. found_in shelf places now q i d more) due rest
   where
     by : (FirstDueInMemory shelf places now q (found_at i d) → has_number i places ≡ true) → (o : Option SeatDue) → (elim o as (λ c. Type 0) [ Some e ↦ (q ≡ now) × (found_at i d ≡ found_at j e) | None ↦ FirstDueInMemory shelf places now q (found_at i d) ]) → has_number i (j ∷ places) ≡ true
-    by later (Some e) here = ap (λ (b : Bool). b || has_number i places) (same_test j i (sym (same_place i j d e here.1)))
+    by later (Some e) here = ap (λ (b : Bool). b || has_number i places) (same_test j i (sym (same_place i j d e here.1).0))
     by later None more = ap (λ (b : Bool). (j == i) || b) (later more) ∙ or_true (j == i)
 
 -- ---- what the law's client follows

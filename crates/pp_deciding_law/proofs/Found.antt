@@ -1,5 +1,5 @@
 -- What is looked for changes what is in memory alone; so where nothing is found, all stands as before.
-use Rattle.std.proofs.Common.{◌≡◌, refl, sym, subst, ap, ◌∙◌, ℕ, Bool, true, false, bytes_eq, List, [], ◌∷◌, Option, Some, None}
+use Rattle.std.proofs.Common.{◌≡◌, refl, sym, subst, ap, ap₂, ◌∙◌, ℕ, Bool, true, false, bytes_eq, List, [], ◌∷◌, Option, Some, None}
 use Rattle.std.specs.List.{list_any}
 use Rattle.pp_cache.specs.Memory.{Memory, with_row}
 use Rattle.pp_cache_law.specs.Pairs.{AreBoth}
@@ -48,6 +48,33 @@ first_keeps shelf (i ∷ places) p q found (now, due, its, rest) = by (λ more. 
     by : (FirstDueInMemory shelf places now q found → IsButForMemory now q) → (o : Option SeatDue) → IsDueInMemory shelf i p now o → (elim o as (λ c. Type 0) [ Some d ↦ (q ≡ now) × (found ≡ Some (i, d)) | None ↦ FirstDueInMemory shelf places now q found ]) → IsButForMemory p q
     by later (Some d) one here = ap (λ (r : Turn). record r { cache = p.cache }) here.0 ∙ due_keeps shelf i p now (Some d) one
     by later None one more = both_keep p now q (due_keeps shelf i p now None one) (later more)
+
+-- ---- what is found is due of the client at its place
+
+abbrev pub found_at : ℕ → SeatDue → Option (ℕ × SeatDue)
+found_at i d = Some (i, d)
+
+pub same_place : (i k : ℕ) (d e : SeatDue) → found_at i d ≡ found_at k e → (i ≡ k) × (d ≡ e)
+same_place i k d e same = let pair : ◌≡◌ {A = ℕ × SeatDue} (i, d) (k, e) = cc same in (ap (λ (x : ℕ × SeatDue). x.0) pair, ap (λ (x : ℕ × SeatDue). x.1) pair)
+
+due_here : (shelf : KeptMap) (j : ℕ) (p q : Turn) (e : SeatDue) → IsDueInMemory shelf j p q (Some e) → due_at j q ≡ Some e
+due_here shelf j p q e its = by (is_due_at shelf j p) its
+  where
+    by : (b : Bool) → (elim b as (λ c. Type 0) [ true ↦ HasRowInMemory shelf (key_at j p) p q × (Some e ≡ due_at j q) | false ↦ (q ≡ p) × (Some e ≡ None) ]) → due_at j q ≡ Some e
+    by true here = sym here.1
+    by false here = absurd (cc here.1)
+
+pub found_due : (shelf : KeptMap) (places : List ℕ) (p q : Turn) (i : ℕ) (d : SeatDue) → FirstDueInMemory shelf places p q (found_at i d) → due_at i q ≡ Some d
+unfolding FirstDueInMemory
+found_due shelf [] p q i d first = absurd (cc first.1)
+found_due shelf (j ∷ places) p q i d (now, due, its, rest) = by (λ more. found_due shelf places now q i d more) due its rest
+  where
+    by : (FirstDueInMemory shelf places now q (found_at i d) → due_at i q ≡ Some d) → (o : Option SeatDue) → IsDueInMemory shelf j p now o
+        → (elim o as (λ c. Type 0) [ Some e ↦ (q ≡ now) × (found_at i d ≡ found_at j e) | None ↦ FirstDueInMemory shelf places now q (found_at i d) ]) → due_at i q ≡ Some d
+    by later (Some e) one here =
+        let same : (i ≡ j) × (d ≡ e) = same_place i j d e here.1 in
+        ap₂ (λ (k : ℕ) (r : Turn). due_at k r) same.0 here.0 ∙ due_here shelf j p now e one ∙ ap (λ (x : SeatDue). Some x) (sym same.1)
+    by later None one more = later more
 
 -- who is not looked at is asleep still
 pub awake_on : (p q : Turn) → IsButForMemory p q → AreAwake p → AreAwake q

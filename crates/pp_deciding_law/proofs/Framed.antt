@@ -56,22 +56,23 @@ pub record IsBeside (s t : State) : Type 0 where
   pub clients : t.clients ≡ s.clients
   pub exchanges : t.exchanges ≡ s.exchanges
   pub conns : t.conns ≡ s.conns
+  pub settings : t.settings ≡ s.settings
 
 entry_beside : (text : Bytes) (o : Option Entry) (s : State) → IsBeside s (with_entry text o s)
 unfolding add_row
-entry_beside text None s = record { clients = refl; exchanges = refl; conns = refl }
-entry_beside text (Some e) s = record { clients = refl; exchanges = refl; conns = refl }
+entry_beside text None s = record { clients = refl; exchanges = refl; conns = refl; settings = refl }
+entry_beside text (Some e) s = record { clients = refl; exchanges = refl; conns = refl; settings = refl }
 
 pub row_beside : (text : Option Bytes) (s : State) → IsBeside s (with_row_if text s)
-row_beside None s = record { clients = refl; exchanges = refl; conns = refl }
+row_beside None s = record { clients = refl; exchanges = refl; conns = refl; settings = refl }
 row_beside (Some text) s = entry_beside text (kept_alone s text) s
 
 pub forget_beside : (id : ℕ) (s : State) → IsBeside s (forget id s)
 unfolding forget
-forget_beside id s = record { clients = refl; exchanges = refl; conns = refl }
+forget_beside id s = record { clients = refl; exchanges = refl; conns = refl; settings = refl }
 
 pub beside_then : (s t u : State) → IsBeside s t → IsBeside t u → IsBeside s u
-beside_then s t u one two = record { clients = two.clients ∙ one.clients; exchanges = two.exchanges ∙ one.exchanges; conns = two.conns ∙ one.conns }
+beside_then s t u one two = record { clients = two.clients ∙ one.clients; exchanges = two.exchanges ∙ one.exchanges; conns = two.conns ∙ one.conns; settings = two.settings ∙ one.settings }
 
 -- whether a row has to leave is the same
 pub must_in : (phase : Phase) (room : Option ℕ) (s : State) (text : Bytes) → must_forget (in_turn phase room s) text ≡ must_forget s text

@@ -1,20 +1,23 @@
 -- A decision that is found is permitted, and leads where the law leads.
-use Rattle.std.proofs.Common.{◌≡◌, ◌≤◌, refl, sym, subst, ap, ap₂, ◌∙◌, ℕ, Bool, true, false, ◌&&◌, ◌||◌, not, nat_lt, find, List, [], ◌∷◌, ◌++◌, Option, Some, None, option_map, arith}
+use Rattle.std.proofs.Common.{◌≡◌, ◌≤◌, refl, sym, subst, ap, ap₂, ◌∙◌, ℕ, Bool, true, false, ◌&&◌, ◌||◌, not, nat_lt, find, length, List, [], ◌∷◌, ◌++◌, Option, Some, None, option_map, arith}
 use Rattle.std.proofs.lemmas.Bool.Decides.{nat_tests}
 use Rattle.std.specs.List.{list_any}
 use Rattle.std.specs.Prelude.{count_by, is_some, option_and_then, slice_get}
 use Rattle.pp_cache_law.proofs.Alike.{room_of}
 use Rattle.pp_cache_law.proofs.Numbers.{some_is}
+use Rattle.pp_conf.specs.Conf.{Settings}
 use Rattle.pp_decides_law.proofs.Comes.{comes, notes}
 use Rattle.pp_decides_law.proofs.Keyed.{keys_same}
 use Rattle.pp_decides_law.proofs.MarkedRow.{for_memory_same}
 use Rattle.pp_decides_law.proofs.Sitting.{is_at, shown_at}
 use Rattle.pp_decides_law.proofs.Stays.{stays_due}
 use Rattle.pp_decides_law.proofs.Taken.{regains, takes}
+use Rattle.pp_decides_law.proofs.Turned.{and_no}
 use Rattle.pp_decides_law.proofs.Ways.{ways}
 use Rattle.pp_decides_law.specs.Decides.{IsDecided}
 use Rattle.pp_decides_law.specs.Takes.{HasItsRow, MayDo, taken}
 use Rattle.pp_decides_law.specs.Ways.{GivesWay, IsStillDue, IsWay, MayYield, left_for}
+use Rattle.pp_due.specs.Due.{cut_of, due_of as due_of_seat}
 use Rattle.pp_due.specs.Entering.{key_at, key_due, is_to_enter}
 use Rattle.pp_flow_law.specs.Tables.{none_leaves}
 use Rattle.pp_law.specs.After.{take_decision}
@@ -36,6 +39,7 @@ use Rattle.pp_obeys.proofs.Calls.{moves_to}
 use Rattle.pp_obeys.proofs.TurnHappenings.{goes_forgotten_before, goes_taken, goes_taken_behind, next_first, takes_due}
 use Rattle.pp_obeys.specs.Moves.{Goes, Leads}
 use Rattle.pp_peers.specs.declared.peers.Peer.{Peer}
+use Rattle.pp_seats.specs.Dues.{is_refused_in, refused_in}
 use Rattle.pp_seats.specs.Heads.{asked_in, owned_in}
 use Rattle.pp_seats.specs.declared.due.Due.TheVariants.{Decide as IsDecidedDue}
 use Rattle.pp_seats.specs.declared.key.Key.{Key as OwnedKey}
@@ -52,17 +56,19 @@ use Rattle.pp_store.specs.Kept.{KeptMap}
 use Rattle.pp_take.specs.Deciding.{Takes, afforded}
 use Rattle.pp_target.specs.Key.{Key, text_of}
 use Rattle.pp_turns_law.proofs.First.{first_dues}
+use Rattle.pp_turns_law.proofs.Guarded.{none_unentered}
 use Rattle.pp_turns_law.specs.Firsts.{IsFirst, with_row_if}
 use Rattle.pp_turns_law.specs.Rows.{IsReady, ShowsDisk, with_row_of}
 use Rattle.pp_world.specs.declared.happening.Happening.TheVariants.{Noted}
 use Rattle.pp_world.specs.declared.note.Decision.{Decision}
+use Rattle.pp_world.specs.declared.note.Decision.TheVariants.{Refuse, Hit, Part, Head, NotModified, Unsatisfiable, Relay, Validate, Fetch, Pass}
 use Rattle.pp_world.specs.declared.note.Remark.TheVariants.{Forgotten, Taken}
 use Rattle.pp_deciding_law.proofs.Disk.{shows_disk}
 use Rattle.pp_deciding_law.proofs.Due.{IsUnbegun, deciding_by, expected, its_due, not_begun, past_rows, unbegun_by}
 use Rattle.pp_deciding_law.proofs.Framed.{IsBeside, beside_then, forget_beside, row_beside, row_in, rows_in, there_then}
-use Rattle.pp_deciding_law.proofs.Found.{IsButForMemory, first_keeps}
+use Rattle.pp_deciding_law.proofs.Found.{found_due, IsButForMemory, first_keeps}
 use Rattle.pp_deciding_law.specs.Stands.{StandsToDecide}
-use Rattle.pp_deciding_law.specs.Takes.{DecisionsLead, IsNext, RestsOn, TakesAsTheLaw, room_made, to_take}
+use Rattle.pp_deciding_law.specs.Takes.{DecisionsLead, MayDoNext, IsNext, RestsOn, TakesAsTheLaw, room_made, to_take}
 
 -- ---- a row that gives way leaves all but what is in memory
 
@@ -94,6 +100,21 @@ module _ (s : State) where
       by : (o : Option Known) → row s key ≡ o → (not (is_some o) && is_some (row_on_disk s key) && not (nat_lt (rows s) 1024) && is_some (idle_row s)) ≡ false
       by (Some x) is = refl
       by None is = ap (λ (e : Option Entry). is_some e && not (nat_lt (rows s) 1024) && is_some (idle_row s)) (kept is)
+
+-- ---- what each kind of decision rests on
+
+to_do : (name : Bytes) (i : ℕ) (d : Decision) (p : Parts) (t : State) (seat : Seat) (c : Client) → (is_for_memory d ≡ false → is_refused_in seat.brought ≡ false) → name ≡ t.settings.name → (refused_in seat.front ≡ Some 500 → ⊥) → length t.clients ≤ 256 → MayDoNext name i d p t seat c
+    → MayDo name i d p t seat c
+to_do name i (Refuse status) p t seat c given named key few may = may
+to_do name i Pass p t seat c given named key few may = record { given = given refl; there = may.there; asks = may.asks; named = named }
+to_do name i Fetch p t seat c given named key few may = record { given = given refl; there = may.there; asks = may.asks; named = named }
+to_do name i Validate p t seat c given named key few may = record { given = given refl; there = may.there; asks = may.asks; named = named }
+to_do name i Relay p t seat c given named key few may = record { given = given refl; there = may }
+to_do name i (Hit from to) p t seat c given named key few may = record { given = given refl; key = key; there = may.there; other = may.other; few = few }
+to_do name i (Part from to) p t seat c given named key few may = record { given = given refl; key = key; there = may.there; other = may.other; few = few }
+to_do name i Head p t seat c given named key few may = record { given = given refl; key = key; there = may.there; other = may.other; few = few }
+to_do name i NotModified p t seat c given named key few may = record { given = given refl; key = key; there = may.there; other = may.other; few = few }
+to_do name i Unsatisfiable p t seat c given named key few may = record { given = given refl; key = key; there = may.there; other = may.other; few = few }
 
 module _ (number0 : ℕ → ℕ) (peers : List Peer) (shelf : KeptMap) (i : ℕ) (due : Decision) (p q : Turn) (s : State) (seat : Seat) (c : Client) (between : Parts) (stands : StandsToDecide number0 peers shelf p s) (sound : IsSoundTurn s) (next : IsNext shelf i due p q s seat c)
     (rests : RestsOn i due p q s seat c) (it : Takes q.name.items i due (parts (given_way due i q)) between) where
@@ -152,9 +173,23 @@ module _ (number0 : ℕ → ℕ) (peers : List Peer) (shelf : KeptMap) (i : ℕ)
   keyed : option_map text_of (key_in c.front) ≡ option_map (λ (k : OwnedKey). k.text.items) (owned_in (asked_in seat.front))
   keyed = keys_same seat.front c.front own.front ready.key
 
+  -- memory was refused for no row that its exchange brought, unless it is refused for that
+  given_if : is_for_memory due ≡ false → is_refused_in seat.brought ≡ false
+  given_if more = by (is_refused_in seat.brought) refl
+    where
+      its_due_now : due_of_seat q seat ≡ Some (IsDecidedDue due)
+      its_due_now = sym (ap (λ (o : Option Seat). option_and_then (due_of_seat q) o) next.here) ∙ found_due shelf p.awake.items p q i (IsDecidedDue due) next.first
+
+      by : (b : Bool) → is_refused_in seat.brought ≡ b → b ≡ false
+      by false is = refl
+      by true is =
+          absurd
+          (none_unentered number none_leaves peers shelf q (with_row_if text s) i seat c disk next.here seen stands.kept
+          (ap (λ (b : Bool). not (is_some (cut_of q seat)) && not b) is ∙ and_no (not (is_some (cut_of q seat)))) due its_due_now more)
+
   -- ---- it is taken in a state that has its clients, exchanges and connections
 
-  module _ (t : State) (beside : IsBeside s t) (shown : Shows turn (with_row_if text t)) (has : HasItsRow due (with_row_if text t) seat) (may : MayDo q.name.items i due (parts turn) (with_row_if text t) seat c) where
+  module _ (t : State) (beside : IsBeside s t) (shown : Shows turn (with_row_if text t)) (has : HasItsRow due (with_row_if text t) seat) (may : MayDoNext q.name.items i due (parts turn) (with_row_if text t) seat c) where
     abbrev r : State
     r = with_row_if text t
 
@@ -176,6 +211,11 @@ module _ (number0 : ℕ → ℕ) (peers : List Peer) (shelf : KeptMap) (i : ℕ)
       asks = asks;
     }
 
+    may_do : MayDo q.name.items i due (parts turn) r seat c
+    may_do =
+        to_do q.name.items i due (parts turn) r seat c given_if (disk.turn.name ∙ ap (λ (x : Settings). x.name) ((row_beside text s).settings ∙ sym all_beside.settings)) ready.key
+        (subst (λ (cs : List Client). length cs ≤ 256) (sym all_beside.clients) sound.bounded.clients) may
+
     same : afforded i due turn ≡ due
     same = way_affords (row_in_way due i q) q i due ∙ rests.affords
 
@@ -184,7 +224,7 @@ module _ (number0 : ℕ → ℕ) (peers : List Peer) (shelf : KeptMap) (i : ℕ)
         subst (λ (d : Decision). ShowsSteps number q.name.items none_leaves peers between (taken c d r)) same
         (takes number q.name.items none_leaves peers (parts turn) r shown turn i due seat c between refl decided_here
         (subst (λ (d : Decision). HasItsRow d r seat) (sym same) has)
-        (subst (λ (d : Decision). MayDo q.name.items i d (parts turn) r seat c) (sym same) may)
+        (subst (λ (d : Decision). MayDo q.name.items i d (parts turn) r seat c) (sym same) may_do)
         (subst (λ (d : Decision). Takes q.name.items i d (parts turn) between) (sym same) it))
 
   -- ---- the end of each case
@@ -203,7 +243,7 @@ module _ (number0 : ℕ → ℕ) (peers : List Peer) (shelf : KeptMap) (i : ℕ)
   -- ---- none gives way
 
   itself : IsBeside s s
-  itself = record { clients = refl; exchanges = refl; conns = refl }
+  itself = record { clients = refl; exchanges = refl; conns = refl; settings = refl }
 
   goes_alone : has_room_for s n due ≡ true → Goes s (Noted (Taken n seat.index due)) (take_decision n due (in_phase Deciding s))
   goes_alone room = goes_taken s n seat.index due stands.deciding.none taking (takes_due s n seat.index due (next_first s stands.deciding.none ∙ first) room)
@@ -219,8 +259,8 @@ module _ (number0 : ℕ → ℕ) (peers : List Peer) (shelf : KeptMap) (i : ℕ)
       let is : u ≡ in_phase Deciding s = ap (λ (t : State). in_phase Deciding t) stays in
       ends s is itself (leads_alone none room)
       (subst (λ (t : State). ShowsSteps number q.name.items none_leaves peers between t) same
-      (shows_taken (in_phase Deciding s) (record { clients = refl; exchanges = refl; conns = refl }) (shown_alone none) has
-      (subst (λ (t : State). MayDo q.name.items i due (parts turn) (with_row_if text t) seat c) is rests.may)))
+      (shows_taken (in_phase Deciding s) (record { clients = refl; exchanges = refl; conns = refl; settings = refl }) (shown_alone none) has
+      (subst (λ (t : State). MayDoNext q.name.items i due (parts turn) (with_row_if text t) seat c) is rests.may)))
 
   -- ---- for want of memory
 
@@ -347,7 +387,7 @@ module _ (number0 : ℕ → ℕ) (peers : List Peer) (shelf : KeptMap) (i : ℕ)
             (subst (λ (b : Bytes). Leads (Noted (Forgotten b) ∷ Noted (Taken n seat.index due) ∷ []) s (take_decision n due (in_phase Deciding left))) (sym g.same) (moves_to refl permitted (moves_to refl then refl)))
 
         beside : IsBeside s (in_phase Deciding left)
-        beside = let out : IsBeside s (forget x.id s) = forget_beside x.id s in record { clients = out.clients; exchanges = out.exchanges; conns = out.conns }
+        beside = let out : IsBeside s (forget x.id s) = forget_beside x.id s in record { clients = out.clients; exchanges = out.exchanges; conns = out.conns; settings = out.settings }
 
         shown_left : Shows turn (with_row_if text (in_phase Deciding left))
         shown_left =
@@ -362,10 +402,10 @@ module _ (number0 : ℕ → ℕ) (peers : List Peer) (shelf : KeptMap) (i : ℕ)
 
         given : TakesAsTheLaw number i due peers q s seat c between
         given =
-            ends left is_left (let out : IsBeside s (forget x.id s) = forget_beside x.id s in record { clients = out.clients; exchanges = out.exchanges; conns = out.conns }) both_lead
+            ends left is_left (let out : IsBeside s (forget x.id s) = forget_beside x.id s in record { clients = out.clients; exchanges = out.exchanges; conns = out.conns; settings = out.settings }) both_lead
             (subst (λ (t : State). ShowsSteps number q.name.items none_leaves peers between t) (same_in left g.room)
             (shows_taken (in_phase Deciding left) beside shown_left (record { key = λ still. ready.key; kept = λ still. kept_left })
-            (subst (λ (t : State). MayDo q.name.items i due (parts turn) (with_row_if text t) seat c) is_left rests.may)))
+            (subst (λ (t : State). MayDoNext q.name.items i due (parts turn) (with_row_if text t) seat c) is_left rests.may)))
 
       by_way : (o : Option Instance) → row_in_way due i q ≡ o → IsWay number q.name.items none_leaves peers q i due k s o → TakesAsTheLaw number i due peers q s seat c between
       by_way None way none = none_leaves_for way (must_by false none) (same_in s none)

@@ -2,7 +2,9 @@
 -- and 13; the order is ours).
 use Rattle.std.specs.Prelude.{◌≡◌, ◌≤◌, ℕ, true, false, ◌||◌, not, List, [], ◌∷◌, ◌++◌, is_some, length, slice_get, Some, None}
 use Rattle.std.specs.List.{filter_map, list_any}
-use Rattle.pp_decides_law.specs.Takes.{MayDo, taken}
+use Rattle.pp_decides_law.specs.Decides.{FollowsWhatIsThere, MayRefuse}
+use Rattle.pp_decides_law.specs.Follows.{FollowsNoRow}
+use Rattle.pp_decides_law.specs.Takes.{taken}
 use Rattle.pp_decides_law.specs.Ways.{left_for}
 use Rattle.pp_due.specs.Entering.{key_at}
 use Rattle.pp_flow_law.specs.Tables.{none_leaves}
@@ -12,6 +14,7 @@ use Rattle.pp_law.specs.Connections.{client}
 use Rattle.pp_law.specs.Deciding.{is_for_memory}
 use Rattle.pp_law.specs.Due.{first_due}
 use Rattle.pp_law.specs.Leaving.{forgets_next}
+use Rattle.pp_law.specs.Lists.{Bytes}
 use Rattle.pp_law.specs.Phases.{in_phase}
 use Rattle.pp_law.specs.Replies.{regained}
 use Rattle.pp_law.specs.Requests.{parsed_in}
@@ -29,10 +32,11 @@ use Rattle.pp_state.specs.declared.state.State.{State as Turn}
 use Rattle.pp_steps.specs.Evicting.{given_way, row_in_way, row_notes}
 use Rattle.pp_steps_law.specs.Steps.{ShowsSteps}
 use Rattle.pp_store.specs.Kept.{KeptMap}
-use Rattle.pp_take.specs.Deciding.{Takes, afforded}
+use Rattle.pp_take.specs.Deciding.{Takes, afforded, ask_at}
 use Rattle.pp_turns_law.specs.Firsts.{FirstDueInMemory, with_row_if}
 use Rattle.pp_world.specs.declared.happening.Happening.TheVariants.{Noted}
 use Rattle.pp_world.specs.declared.note.Decision.{Decision}
+use Rattle.pp_world.specs.declared.note.Decision.TheVariants.{Refuse, Hit, Part, Head, NotModified, Unsatisfiable, Relay, Validate, Fetch, Pass}
 use Rattle.pp_world.specs.declared.note.Remark.TheVariants.{Taken}
 use Rattle.pp_deciding_law.specs.Stands.{StandsToDecide}
 
@@ -61,6 +65,29 @@ pub record IsNext (shelf : KeptMap) (i : ℕ) (due : Decision) (p q : Turn) (s :
   pub here : slice_get q.seats.items i ≡ Some seat
   pub there : client s seat.client.id ≡ Some c
 
+-- what each kind of decision rests on, beside what is known of one that is found: a page has room; what is asked fits into an ask, as the
+-- decision was taken so (C of `decide`); what is followed from now on was not followed before (C of `due_reply`); and what was is there,
+-- which IsReady has before a row gives way
+pub record MayAskNext (name : Bytes) (i : ℕ) (d : Decision) (p : Parts) : Type 0 where
+  pub there : FollowsWhatIsThere i p
+  pub asks : is_some (ask_at name i d p) ≡ true
+
+pub record MayFollowNext (i : ℕ) (p : Parts) (s : State) (c : Client) : Type 0 where
+  pub there : FollowsWhatIsThere i p
+  pub other : FollowsNoRow s c
+
+abbrev pub MayDoNext : Bytes → ℕ → Decision → Parts → State → Seat → Client → Type 0
+MayDoNext name i (Refuse status) p s seat c = MayRefuse i status p seat
+MayDoNext name i Pass p s seat c = MayAskNext name i Pass p
+MayDoNext name i Fetch p s seat c = MayAskNext name i Fetch p
+MayDoNext name i Validate p s seat c = MayAskNext name i Validate p
+MayDoNext name i Relay p s seat c = FollowsWhatIsThere i p
+MayDoNext name i (Hit from to) p s seat c = MayFollowNext i p s c
+MayDoNext name i (Part from to) p s seat c = MayFollowNext i p s c
+MayDoNext name i Head p s seat c = MayFollowNext i p s c
+MayDoNext name i NotModified p s seat c = MayFollowNext i p s c
+MayDoNext name i Unsatisfiable p s seat c = MayFollowNext i p s c
+
 -- what it rests on beside that
 pub record RestsOn (i : ℕ) (due : Decision) (p q : Turn) (s : State) (seat : Seat) (c : Client) : Type 0 where
   -- an ask has memory: IsSoundTurn bounds the exchanges until Stop, and IsReady has that its key was not refused any; that no count ends
@@ -76,8 +103,8 @@ pub record RestsOn (i : ℕ) (due : Decision) (p q : Turn) (s : State) (seat : S
   pub busy : length (filter_map busy_row (exchanges_of q.flow)) ≤ 64
   -- the row that has to leave did not come in this turn: no source yet (320 are busy and 16 new at most)
   pub old : (x : Known) → forgets_next s (first_due s) ≡ true → idle_row s ≡ Some x → x.is_new ≡ false
-  -- what each kind of decision rests on (pp_decides_law)
-  pub may : MayDo q.name.items i due (parts (given_way due i q)) (with_row_if (key_at i p) (to_take due s)) seat c
+  -- by its kind
+  pub may : MayDoNext q.name.items i due (parts (given_way due i q)) (with_row_if (key_at i p) (to_take due s)) seat c
 
 -- ---- both
 

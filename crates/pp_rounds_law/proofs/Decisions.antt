@@ -5,10 +5,10 @@ use Rattle.pp_cache.specs.Bounds.{IsBounded}
 use Rattle.pp_closings_law.specs.Sides.{MayClose}
 use Rattle.pp_decides_law.proofs.Sitting.{is_at}
 use Rattle.pp_decides_law.proofs.StandingOn.{find_at}
-use Rattle.pp_deciding_law.proofs.Behind.{found_at, same_place, stand}
+use Rattle.pp_deciding_law.proofs.Behind.{stand}
 use Rattle.pp_deciding_law.proofs.CutBehind.{cut_stand}
 use Rattle.pp_deciding_law.proofs.Cuts.{cuts_lead}
-use Rattle.pp_deciding_law.proofs.Found.{first_keeps, none_next}
+use Rattle.pp_deciding_law.proofs.Found.{first_keeps, found_at, none_next, same_place}
 use Rattle.pp_deciding_law.proofs.Leads.{leads}
 use Rattle.pp_deciding_law.specs.Behind.{IsBehind}
 use Rattle.pp_deciding_law.specs.Cuts.{CutsAsTheLaw, IsBehindCut, IsCutNext, behind_cut}
@@ -78,7 +78,7 @@ found_there shelf (j ∷ places) p q i d (now, due, its, rest) none = by (λ mor
     nobody : (e : SeatDue) → q ≡ now → found_at i d ≡ found_at j e → due_at j now ≡ None
     nobody e same is =
         ap (λ (o : Option Seat). option_and_then (due_of now) o)
-        (ap (λ (r : Turn). slice_get r.seats.items j) (sym same) ∙ ap (λ (k : ℕ). slice_get q.seats.items k) (sym (same_place i j d e is)) ∙ none)
+        (ap (λ (r : Turn). slice_get r.seats.items j) (sym same) ∙ ap (λ (k : ℕ). slice_get q.seats.items k) (sym (same_place i j d e is).0) ∙ none)
 
     taken_by : (e : SeatDue) (b : Bool) → (elim b as (λ c. Type 0) [ true ↦ HasRowInMemory shelf (key_at j p) p now × (let o : Option SeatDue = Some e in o ≡ due_at j now) | false ↦ (now ≡ p) × (let o : Option SeatDue = Some e in o ≡ None) ]) → q ≡ now → found_at i d ≡ found_at j e → ⊥
     taken_by e true one same is = absurd (let both : Some e ≡ None = one.1 ∙ nobody e same is in cc both)
