@@ -1,0 +1,11 @@
+pub mod Behind
+pub mod CutBehind
+pub mod Cuts
+pub mod Disk
+pub mod Due
+pub mod Found
+pub mod Framed
+pub mod Keeps
+pub mod Law
+pub mod Leads
+pub mod Stays
