@@ -147,6 +147,8 @@ def build(names):
         finally:
             if rt.poll() is None:
                 os.killpg(rt.pid, signal.SIGTERM)
+        if built.exists() and progress.crates < len(names):
+            progress.proved("polipo", 0)
     rt.wait()
     if not built.exists():
         return told
