@@ -120,13 +120,15 @@ def follow(rt, progress):
     return "".join(told)
 
 
-def take(rt, built):
-    """Ends the run once the program is linked. What would come is the gate's: the program by the second compiler, and what both of them print."""
+def take(rt, built, is_taken):
+    """Ends the run once the program is linked, and notes that. What would come is the gate's: what the program can call of the system, the
+    program by the second compiler, and what both of them print."""
     last = None
     while rt.poll() is None:
-        with contextlib.suppress(FileNotFoundError):
+        with contextlib.suppress(FileNotFoundError, ProcessLookupError):
             found = built.stat()
             if found == last and os.access(built, os.X_OK):
+                is_taken.set()
                 return os.killpg(rt.pid, signal.SIGTERM)
             last = found
         time.sleep(0.5)
@@ -139,18 +141,19 @@ def build(names):
     copied(names, ROOM, without=("must-fail", "wrong"))
     built = ROOM / "crates/polipo/out/polipo"
     built.unlink(missing_ok=True)
+    is_taken = threading.Event()
     with Progress(len(names)) as progress:
         rt = subprocess.Popen(["rt", "ci"], cwd=ROOM, stdout=subprocess.PIPE, stderr=subprocess.STDOUT, text=True, errors="replace", start_new_session=True)
-        threading.Thread(target=take, args=(rt, built), daemon=True).start()
+        threading.Thread(target=take, args=(rt, built, is_taken), daemon=True).start()
         try:
             told = follow(rt, progress)
         finally:
             if rt.poll() is None:
-                os.killpg(rt.pid, signal.SIGTERM)
-        if built.exists() and progress.crates < len(names):
+                with contextlib.suppress(ProcessLookupError):
+                    os.killpg(rt.pid, signal.SIGTERM)
+        if is_taken.is_set() and progress.crates < len(names):
             progress.proved("polipo", 0)
-    rt.wait()
-    if not built.exists():
+    if (rt.wait() and not is_taken.is_set()) or not built.exists():
         return told
     PROGRAM.parent.mkdir(exist_ok=True)
     shutil.copy(built, PROGRAM)
