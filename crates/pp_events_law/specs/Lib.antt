@@ -1,0 +1,9 @@
+pub mod Anew
+pub mod Asks
+pub mod Breaks
+pub mod Hears
+pub mod Readable
+pub mod Silent
+pub mod Stands
+pub mod Woken
+pub mod Writable

@@ -1,0 +1,35 @@
+//! What a turn does for an event leads where the law leads, and the turn stands behind it.
+//!
+//! `specs/Stands.antt` is what stands around an event: the relation of `pp_turns_law`, with where the law is and what it still owes, who is
+//! looked at, and which connections are open. Events that add nothing to the log are in `specs/Silent.antt`: Stop, a client that comes, a
+//! connection that was reached, and the clock; `specs/Breaks.antt` has a connection that breaks. `specs/Woken.antt` says how a read or a
+//! write comes to be owed; `specs/Hears.antt` has the read of a client and `specs/Asks.antt` the write to an origin, from there on, and
+//! `specs/Readable.antt` and `specs/Writable.antt` the same from the wait on. Behind each attempts count anew (`specs/Anew.antt`), and the
+//! turn stands at the law's state, from which it leaves the event.
+//!
+//! Not said: a write to a client, and a read of an origin; a client that comes for which there is no memory; and behind a read, a write or
+//! a break, that each client that goes on can be decided, but for that what it follows is there.
+//!
+//! To the layer above: each is the clause of a function that does nothing. It is one part of the proof that the program
+//! obeys the law: nothing is said here of a turn in which memory was refused for a row. The words of the program stand in `pp_proxy`,
+//! whose `handle` says of each event what it does.
+//!
+//! Takes no memory, and does nothing when the program runs.
+#![tactic(auto)]
+
+mod asking; // an origin is asked
+mod behind; // attempts count anew
+mod breaking; // a connection to an origin breaks
+mod owing; // a read or a write is owed
+mod reading; // a client is read
+mod silent; // events that add nothing to the log
+
+pub use asking::origins_are_asked_as_by_the_law;
+pub use behind::attempts_count_behind_events_as_by_the_law;
+pub use breaking::connections_break_as_by_the_law;
+pub use owing::{clients_are_owed_as_by_the_law, origins_are_owed_as_by_the_law};
+pub use reading::clients_are_heard_as_by_the_law;
+pub use silent::{
+    clients_come_as_by_the_law, connections_are_reached_as_by_the_law, seconds_begin_as_by_the_law,
+    stops_lead_as_by_the_law,
+};

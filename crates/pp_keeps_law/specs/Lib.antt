@@ -1,0 +1,5 @@
+pub mod All
+pub mod Keeps
+pub mod Plans
+pub mod Runs
+pub mod Stands

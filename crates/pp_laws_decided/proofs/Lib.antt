@@ -1,0 +1,6 @@
+pub mod Spans
+pub mod Fits
+pub mod Begins
+pub mod Choices
+pub mod Steps
+pub mod Laws

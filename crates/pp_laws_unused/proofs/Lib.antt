@@ -1,0 +1,4 @@
+pub mod Seen
+pub mod Opened
+pub mod Turning
+pub mod Laws

@@ -1,0 +1,10 @@
+pub mod Amid
+pub mod Awaits
+pub mod Bads
+pub mod Data
+pub mod Gots
+pub mod Heads
+pub mod Interims
+pub mod Pieces
+pub mod Rows
+pub mod Wholes

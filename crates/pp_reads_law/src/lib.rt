@@ -1,0 +1,36 @@
+//! What a read of an origin brings is what the law has it bring, step by step of its pipe and piece by piece of the law.
+//!
+//! `specs/Rows.antt` has the row that is kept of the key of an exchange come into memory beside the head of its response, and another leave for
+//! it, which is to be noted. `Heads` joins the final head: it is taken as the law takes it, or refused. `Data` says where the data of a response
+//! go, `Wholes` what its end leaves, and `Bads` what is made of what is no response, or comes too early. `Pieces` joins these amid a body: the
+//! steps of the pipe up to the end of the body, or of the read, are one piece of the law. `Awaits` has one step where a head is awaited,
+//! `Interims` how the law comes to the text that is read there, and `Gots` joins both: the step is what the law gets, up to the end of that
+//! head. `Amid` is the relation.
+//!
+//! Not said: a head to the ask of a follower, and one that is passed and names other places; the end of an empty body, which the law has with
+//! its head; a step within a body that finds no byte left; and so a whole read, from its first byte to its last, for which each state
+//! between two pieces has to hold what a piece rests on. Nor is anything said where memory was refused for a row.
+//!
+//! To the layer above: each is the clause of a function that does nothing. It is one part of the proof that the program obeys the law. The
+//! words of the program stand in `pp_origins` and `pp_due`, which say of each function which it computes.
+//!
+//! Takes no memory, and does nothing when the program runs.
+#![tactic(auto)]
+
+mod awaits; // what a read brings where a head is awaited
+mod bads; // what is no response, or comes too early
+mod data; // data of a response
+mod heads; // the final head of a response
+mod pieces; // what a read brings amid a body
+mod rows; // the row that is kept of the key of an exchange
+mod wholes; // a response is whole
+
+pub use awaits::{
+    heads_are_awaited_as_the_laws, heads_are_got_as_the_laws, interim_heads_are_passed,
+};
+pub use bads::bad_responses_are_the_laws;
+pub use data::data_come_as_the_laws;
+pub use heads::heads_come_as_the_laws;
+pub use pieces::bodies_are_read_as_the_laws;
+pub use rows::rows_are_brought_as_the_laws;
+pub use wholes::whole_responses_end_as_the_laws;
