@@ -12,7 +12,7 @@ use Rattle.pp_closings_law.specs.Log.{AreLinked}
 use Rattle.pp_closings_law.specs.Sides.{MayClose}
 use Rattle.pp_desk.specs.Closings.{Sides, peer_numbers, sides}
 use Rattle.pp_desk.specs.declared.desk.Desk.{Desk}
-use Rattle.pp_flow_law.proofs.Entries.{none_some}
+use Rattle.pp_flow_law.proofs.Entries.{length_last, none_some}
 use Rattle.pp_flow_law.specs.Tables.{AreGiven, none_leaves}
 use Rattle.pp_law.specs.After.{event, new_client, opened}
 use Rattle.pp_law.specs.Connections.{is_client}
@@ -24,7 +24,6 @@ use Rattle.pp_links.specs.Links.{Link}
 use Rattle.pp_obeys.proofs.Happenings.{goes_opened}
 use Rattle.pp_obeys.specs.Moves.{Leads}
 use Rattle.pp_peers.specs.declared.peers.Peer.{Peer}
-use Rattle.pp_places_law.proofs.Links.{one_longer}
 use Rattle.pp_proxy.specs.Accepting.{IsSeated, first_account, newcomer}
 use Rattle.pp_proxy.specs.Handling.{IsSilent}
 use Rattle.pp_proxy.specs.Moving.{Turning}
@@ -163,14 +162,14 @@ module _ (number : ℕ → ℕ) (c : ℕ) (x y : Turning) (s : State) (stands : 
   loud_before : AreLoud unlooked
   loud_before = record {
     order = subst (λ (ss : List Seat). AreGiven 0 (length ss) old.state.awake.items) (sym seated.seats)
-        (subst (λ (n : ℕ). AreGiven 0 n old.state.awake.items) (sym (one_longer old.state.seats.items seat)) (wider 0 (length old.state.seats.items) old.state.awake.items stands.awake.order));
+        (subst (λ (n : ℕ). AreGiven 0 n old.state.awake.items) (sym (length_last old.state.seats.items seat)) (wider 0 (length old.state.seats.items) old.state.awake.items stands.awake.order));
     others = λ j other here none. silent_more old.state.seats.items seat refl (λ k. has_number k old.state.awake.items ≡ false) (λ k one there so. (stands.awake.others k one there so).silent) j other (sym (ap (λ (ss : List Seat). slice_get ss j) seated.seats) ∙ here) none;
   }
 
   awake_behind : AreAwake new.state
   awake_behind =
       not_ticked new.state
-      (roused unlooked new.state (length old.state.seats.items) loud_before (one_within (length old.state.seats.items) (length new.state.seats.items) (ap (λ (ss : List Seat). length ss) seated.seats ∙ one_longer old.state.seats.items seat)) (seated.awake order may.room) refl)
+      (roused unlooked new.state (length old.state.seats.items) loud_before (one_within (length old.state.seats.items) (length new.state.seats.items) (ap (λ (ss : List Seat). length ss) seated.seats ∙ length_last old.state.seats.items seat)) (seated.awake order may.room) refl)
       (ap (λ (d : Desk). d.state.is_ticked) seated.rest ∙ may.still)
     where
       order : AreInOrder old.state.awake.items

@@ -46,7 +46,6 @@ use Rattle.pp_peers.specs.Peers.{with_pipe}
 use Rattle.pp_peers.specs.declared.peers.Peer.{Peer}
 use Rattle.pp_peers_law.proofs.Asks.{lines}
 use Rattle.pp_pipe.specs.Line.{taken}
-use Rattle.pp_places_law.proofs.Links.{link_of}
 use Rattle.pp_proxy.specs.Handling.{AsksOn}
 use Rattle.pp_proxy.specs.Moving.{Turning}
 use Rattle.pp_seats.specs.Seats.{is_silent}
@@ -83,7 +82,7 @@ use Rattle.pp_events_law.proofs.AskedOf.{find_asker, find_nobody, heard_is}
 use Rattle.pp_events_law.proofs.Calls.{is_linked, its_side, told_as}
 use Rattle.pp_events_law.proofs.Gone.{IsSoundAmid, ShowsGone, amid_by, gone_handled}
 use Rattle.pp_events_law.proofs.Standing.{HasWords, may_as, one_leads, open_as, steps_as, turn_by}
-use Rattle.pp_events_law.proofs.Touched.{none_client}
+use Rattle.pp_events_law.proofs.Touched.{link_of, none_client}
 use Rattle.pp_events_law.specs.Asks.{AskingsLead, MayAsk}
 use Rattle.pp_events_law.specs.Stands.{AreReadyAt, HasLed, IsHandled, StandsAtEvent}
 

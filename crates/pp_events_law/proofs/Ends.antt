@@ -3,6 +3,7 @@ use Rattle.std.proofs.Common.{◌≡◌, ◌<◌, ◌≤◌, inl, inr, refl, sym
 use Rattle.std.proofs.lemmas.Bool.Decides.{nat_tests}
 use Rattle.std.proofs.lemmas.Option.{slice_get_within}
 use Rattle.std.specs.Prelude.{count_by, slice_get, slice_set, vec_capacity}
+use Rattle.std.proofs.lemmas.List.{length-set}
 use Rattle.pp_cache.specs.Bounds.{IsBounded}
 use Rattle.pp_cache.specs.Memory.{Memory}
 use Rattle.pp_cache_law.proofs.Numbers.{is_same, some_is}
@@ -12,7 +13,6 @@ use Rattle.pp_decides_law.proofs.Changed.{get_set}
 use Rattle.pp_decides_law.proofs.Regained.{get_other}
 use Rattle.pp_decides_law.proofs.Sitting.{is_at, shown_at}
 use Rattle.pp_decides_law.specs.Decides.{IsAtPlace}
-use Rattle.pp_deciding_law.proofs.Keeps.{set_length}
 use Rattle.pp_desk.specs.Closings.{KeepsDesk, Sides, peer_numbers, sides}
 use Rattle.pp_desk.specs.Replies.{EndsReplies}
 use Rattle.pp_desk.specs.declared.desk.Desk.{Desk}
@@ -155,7 +155,7 @@ module _ (number : ℕ → ℕ) (i : ℕ) (x y : Turning) (seat : Seat) (owed : 
 
     looked_at : AreLookedAt looked.state.awake.items next.parts.seats
     looked_at = record {
-      order = subst (λ (n : ℕ). AreGiven 0 n looked.state.awake.items) (ap (λ (z : Sides). length z.parts.seats) same_sides ∙ sym (set_length i p.seats.items new) ∙ ap (λ (ss : List Seat). length ss) (sym seats_are)) loud.order;
+      order = subst (λ (n : ℕ). AreGiven 0 n looked.state.awake.items) (ap (λ (z : Sides). length z.parts.seats) same_sides ∙ sym (length-set p.seats.items i new) ∙ ap (λ (ss : List Seat). length ss) (sym seats_are)) loud.order;
       others = λ j other at none.
           loud.others j other (ap (λ (z : Sides). slice_get z.parts.seats j) same_sides ∙ sym (get_other i j p.seats.items new (apart_from i j looked.state.awake.items its_awake none)) ∙ ap (λ (ss : List Seat). slice_get ss j) (sym seats_are) ∙ at) none;
     }

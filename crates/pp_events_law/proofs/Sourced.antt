@@ -1,12 +1,11 @@
 -- What each client follows is there still, where by the law what it is answered from is.
-use Rattle.std.proofs.Common.{◌≡◌, refl, sym, subst, ap, ◌∙◌, ℕ, false, List, [], Option, Some, None}
+use Rattle.std.proofs.Common.{◌≡◌, inl, inr, refl, sym, subst, ap, ◌∙◌, ℕ, zero, suc, false, List, [], ◌∷◌, Option, Some, None}
 use Rattle.std.specs.Prelude.{slice_get}
 use Rattle.pp_cache_law.proofs.Numbers.{some_is}
 use Rattle.pp_cache_law.specs.Tables.{ShowsTable}
 use Rattle.pp_decides_law.proofs.StandingOn.{there_by}
 use Rattle.pp_decides_law.proofs.Sitting.{is_at}
 use Rattle.pp_decides_law.specs.Useless.{AllFollow}
-use Rattle.pp_deciding_law.proofs.Disk.{in_place}
 use Rattle.pp_flow_law.specs.Tables.{none_leaves}
 use Rattle.pp_law.specs.Lists.{Bytes}
 use Rattle.pp_law.specs.Stages.{reply_of}
@@ -30,6 +29,13 @@ use Rattle.pp_steps_law.specs.Steps.{ShowsSteps}
 use Rattle.pp_turns_law.proofs.First.{IsShownAt, seat_shown}
 use Rattle.pp_turns_law.specs.Turns.{IsFollowing}
 use Rattle.pp_events_law.proofs.Alike.{AreAlike, WasAlike}
+
+-- ---- who stands at a place is one of all
+
+in_place : {A : Type 0} (i : ℕ) (xs : List A) (x : A) → slice_get xs i ≡ Some x → IsIn x xs
+in_place i [] x at = absurd (cc at)
+in_place zero (y ∷ ys) x at = inl (sym (some_is y x at))
+in_place (suc i) (y ∷ ys) x at = inr (in_place i ys x at)
 
 -- ---- what a seat follows its client is answered from
 

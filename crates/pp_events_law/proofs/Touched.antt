@@ -9,7 +9,7 @@ use Rattle.pp_decides_law.proofs.Sitting.{on_seat_is}
 use Rattle.pp_desk.proofs.ClosingLemmas.{changed_numbers}
 use Rattle.pp_desk.specs.Closings.{Sides, peer_numbers}
 use Rattle.pp_desk.specs.Marks.{marked_on, marked_peer, marked_seat, touched}
-use Rattle.pp_flow_law.proofs.Entries.{none_some}
+use Rattle.pp_flow_law.proofs.Entries.{none_some, same_number}
 use Rattle.pp_flow_law.specs.Tables.{none_leaves}
 use Rattle.pp_law.specs.Connections.{is_client, is_conn, on_client, on_conn}
 use Rattle.pp_law.specs.Lists.{Bytes}
@@ -19,7 +19,6 @@ use Rattle.pp_links.specs.Links.{Link, is_link}
 use Rattle.pp_peers.specs.Peers.{is_number, with_peer}
 use Rattle.pp_peers.specs.declared.peers.Peer.{Peer}
 use Rattle.pp_peers_law.specs.Peers.{ShowConns}
-use Rattle.pp_places_law.proofs.Links.{link_of}
 use Rattle.pp_seats.specs.declared.seat.Seat.{Seat}
 use Rattle.pp_seats_law.specs.Clients.{AreShown, IsAt, IsNowhere}
 use Rattle.pp_state.specs.Ends.{AreInOrder, Parts, numbers_of, on_seat_where, place_of}
@@ -35,6 +34,14 @@ use Rattle.pp_events_law.proofs.Standing.{GoesOnLine, go_through, may_by}
 use Rattle.pp_events_law.specs.Stands.{AreClients}
 
 -- ---- no connection is a client's and an origin's
+
+pub link_of : (n : ℕ) (ps : List Peer) (links : List Link) (peer : Peer) → AreLinked (peer_numbers ps) links → find (is_number n) ps ≡ Some peer → find (is_link n) links ≡ Some (n, OfOrigin)
+link_of n [] links peer linked there = absurd (none_some peer there)
+link_of n (p ∷ ps) links peer linked there = by (is_number n p) refl there (λ later. link_of n ps links peer linked.1 later)
+  where
+    by : (b : Bool) → is_number n p ≡ b → cond b (Some p) (find (is_number n) ps) ≡ Some peer → (find (is_number n) ps ≡ Some peer → find (is_link n) links ≡ Some (n, OfOrigin)) → find (is_link n) links ≡ Some (n, OfOrigin)
+    by true is found rest = subst (λ (m : ℕ). find (is_link m) links ≡ Some (m, OfOrigin)) (same_number p.number n is) linked.0
+    by false is found rest = rest found
 
 pub client_link : (n i : ℕ) (ns : List ℕ) (links : List Link) → place_of n ns ≡ Some i → AreClients ns links → find (is_link n) links ≡ Some (n, OfClient)
 client_link n i [] links there linked = absurd (none_some i there)

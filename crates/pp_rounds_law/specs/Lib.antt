@@ -1,1 +1,12 @@
+pub mod Coming
 pub mod Decisions
+pub mod Ends
+pub mod InRounds
+pub mod Loops
+pub mod Rounds
+pub mod Serves
+pub mod Settles
+pub mod Stands
+pub mod Steps
+pub mod Stops
+pub mod Supplies

@@ -1,14 +1,47 @@
-//! What is decided in one go leads where the law leads.
+//! From the first decision of a turn to its end a turn leads where the law leads.
 //!
 //! `specs/Decisions.antt`: from a log that obeys the law, beside a turn that stands amid decisions (`pp_deciding_law`), all that `decide` of
 //! `pp_proxy` says it takes, one behind the other, is permitted, leads to one state, and leaves the turn standing so.
 //!
-//! Not said: what each decision rests on beside that, which is a premise here, as long as it holds from one to the next; a client for whom
-//! there was no memory; that nothing is due behind the last; and what follows a decision in a turn.
+//! A round is what a turn does behind decisions, until none comes any more: what nobody sees is dropped, asks that bring nothing are given up,
+//! followers ask, connections that are over are closed, exchanges get their places, and then decisions come again. `Stands` has what stands
+//! beside the law's state through all of it, `Steps` and `InRounds` join it step by step, and `Rounds` is the round: from a state in which
+//! nothing is due to one in which nothing is due, over the phases that are done and the happenings that come. `Supplies` lists what that rests
+//! on beside what stands, each with its source or that there is none yet. `Coming` is how the log goes on, which joins over happenings and over
+//! phases that are done, and from which what stands is kept.
+//!
+//! `Loops`: rounds, one behind the other, lead to where nothing is due behind a round that decided nothing. `Ends`: there the law lets a turn
+//! wait, and replies that begin show what the law has at its end; `Serves` joins both. `Stops`: at Stop all clients and then all origins leave
+//! the log's connections, one behind the other, and the log may end. The program neither drops what nobody sees nor gives up asks then, and the
+//! law does both: of it all who is there alone is shown. `Settles`: behind the disk a turn decides, and then serves so, or stops.
+//!
+//! Not said: a turn that takes more than 65,536 decisions or places in one go, or more than 65,536 rounds: the program ends there, and the law
+//! does not; a client for whom there was no memory, which is cut before the first decision; and a turn in which memory was refused for a row.
+//!
+//! To the layer above: each is the clause of a function that does nothing. It is one part of the proof that the program obeys the law.
 //!
 //! Takes no memory, and does nothing when the program runs.
 #![tactic(auto)]
 
+mod amid; // the decisions of a round
 mod deciding; // all decisions
+mod ending; // replies begin
+mod going; // the steps of a round, and all of it
+mod keeping; // what is come to is kept
+mod looping; // rounds, one behind the other
+mod serving; // and replies begin
+mod settling; // from the first decision on
+mod stopping; // all are closed
 
+pub use amid::decisions_of_a_round_are_the_laws;
 pub use deciding::all_decisions_lead_as_by_the_law;
+pub use ending::turns_end_as_the_laws;
+pub use going::{
+    closings_of_a_round_are_the_laws, followers_of_a_round_are_the_laws,
+    places_of_a_round_are_the_laws, rounds_lead_as_by_the_law,
+};
+pub use keeping::what_is_come_to_is_kept;
+pub use looping::loops_lead_as_by_the_law;
+pub use serving::turns_serve_as_by_the_law;
+pub use settling::{turns_settle_as_by_the_law, turns_stop_as_by_the_law};
+pub use stopping::stops_are_the_laws;

@@ -1,5 +1,0 @@
-use Rattle.pp_round_law.proofs.Decided.{decisions}
-use Rattle.pp_round_law.proofs.deciding.decisions_of_a_round_are_the_laws.Goals as goal
-
-pub returns : goal.returns
-returns c = record { decisions = decisions }

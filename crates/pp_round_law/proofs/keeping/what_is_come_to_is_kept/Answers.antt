@@ -1,5 +1,0 @@
-use Rattle.pp_round_law.proofs.Coming.{coming_keeps}
-use Rattle.pp_round_law.proofs.keeping.what_is_come_to_is_kept.Goals as goal
-
-pub returns : goal.returns
-returns c = record { keeps = coming_keeps }

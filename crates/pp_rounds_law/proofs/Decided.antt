@@ -1,0 +1,204 @@
+-- The decisions of a round, one behind the other.
+use Rattle.std.proofs.Common.{◌≡◌, ◌≤◌, ◌+◌, ◌⊎◌, inl, inr, refl, sym, subst, ap, ◌∙◌, ℕ, zero, suc, Bool, true, false, length, List, [], ◌∷◌, ◌++◌, append-nil, Option, Some, None, arith}
+use Rattle.std.specs.List.{All}
+use Rattle.std.specs.Prelude.{count_by, option_and_then, option_map, slice_get, vec_capacity}
+use Rattle.pp_cache_law.proofs.PairLemmas.{count_first}
+use Rattle.pp_closings_law.specs.Log.{AreLinked}
+use Rattle.pp_conf.specs.Conf.{Settings}
+use Rattle.pp_deciding_law.proofs.Found.{first_keeps, found_due, none_next}
+use Rattle.pp_deciding_law.specs.Stands.{NoneIsNext, StandsBehind}
+use Rattle.pp_desk.specs.Closings.{peer_numbers}
+use Rattle.pp_due.specs.Due.{due_at, due_of}
+use Rattle.pp_due.specs.Entering.{FirstDue}
+use Rattle.pp_law.specs.Due.{first_due}
+use Rattle.pp_law.specs.State.{State, Phase, Term, Deciding}
+use Rattle.pp_laws_turn.proofs.Laws.{sound_turns}
+use Rattle.pp_links.specs.Links.{Link}
+use Rattle.pp_obeys.specs.Failures.{fails}
+use Rattle.pp_obeys.specs.Moves.{Leads}
+use Rattle.pp_obeys.specs.Obeys.{Obeys}
+use Rattle.pp_objects.specs.Instances.{Instance}
+use Rattle.pp_peers.specs.declared.placing.Limits.{Limits}
+use Rattle.pp_places_law.specs.Closings.{AreOpen}
+use Rattle.pp_proxy.specs.Deciding.{Decides, TakesOne}
+use Rattle.pp_proxy.specs.Moving.{Moving, with_state}
+use Rattle.pp_proxy.specs.Taking.{due_log_for, due_log_of, who_at}
+use Rattle.pp_rounds_law.proofs.Decisions.{decides_on}
+use Rattle.pp_rounds_law.specs.Decisions.{AllDecided, Passes}
+use Rattle.pp_seats.specs.declared.due.Due.{Due}
+use Rattle.pp_seats.specs.declared.due.Due.TheVariants.{Decide, CutOff}
+use Rattle.pp_seats.specs.declared.seat.Seat.{Seat}
+use Rattle.pp_state.specs.Ends.{numbers_of}
+use Rattle.pp_state.specs.declared.state.State.{State as Turn}
+use Rattle.pp_steps.specs.Evicting.{row_in_way, row_notes}
+use Rattle.pp_store.specs.Kept.{KeptMap}
+use Rattle.pp_take.specs.Deciding.{afforded}
+use Rattle.pp_turns_law.specs.Firsts.{FirstDueInMemory}
+use Rattle.pp_world.specs.Log.{Log}
+use Rattle.pp_world.specs.declared.happening.Happening.TheVariants.{Noted}
+use Rattle.pp_world.specs.declared.note.Decision.{Decision}
+use Rattle.pp_world.specs.declared.note.Remark.{Remark}
+use Rattle.pp_world.specs.declared.note.Remark.TheVariants.{Cut, Forgotten, Taken}
+use Rattle.pp_rounds_law.proofs.Coming.{comes_by, comes_then, none_fail}
+use Rattle.pp_rounds_law.proofs.Noted.{IsBehind, SetAs, cut_leads, forgotten_leads, set_itself, taken_leads}
+use Rattle.pp_rounds_law.proofs.Went.{Went, as_many, went_found, went_one, went_then}
+use Rattle.pp_rounds_law.specs.Coming.{ComesTo}
+use Rattle.pp_rounds_law.specs.InRounds.{AreDecided, DecisionsInARound, TakesSoMany, phase_behind}
+use Rattle.pp_rounds_law.specs.Stands.{StandsInRound}
+use Rattle.pp_rounds_law.specs.Supplies.{RoundSupplies}
+
+-- ---- what stands in a round stands as for decisions, and back
+
+pub behind_of : (shelf : KeptMap) (x : Moving) (s : State) → StandsInRound shelf x s → StandsBehind x.desk.peers shelf x.desk.state s
+behind_of shelf x s stands = record {
+  number = stands.number;
+  stands = record { deciding = stands.deciding; turn = stands.amid.turn; disk = stands.disk; ready = stands.amid.ready; kept = stands.amid.kept; awake = stands.amid.awake };
+}
+
+abbrev pub limits_by : Settings → Limits
+limits_by settings = record { host_connections = settings.host_connections; pipelines_asks = settings.pipelines_asks }
+
+pub few_of : (a b c d : ℕ) → a ≡ b → b ≤ 256 + c → d ≡ c → a ≤ 256 + d
+few_of a b c d one few two = omega (arith, one, few, two)
+
+pub top_of : (a b c d : ℕ) → a ≡ b → b ≤ c → d ≡ c → a ≤ d
+top_of a b c d one less two = omega (arith, one, less, two)
+
+stands_on : (shelf : KeptMap) (x y : Moving) (s t : State) → StandsInRound shelf x s → Went x y → SetAs s t → StandsBehind y.desk.peers shelf y.desk.state t → StandsInRound shelf y t
+stands_on shelf x y s t before went set behind = record {
+  number = behind.number;
+  amid = record {
+    turn = behind.stands.turn;
+    ready = behind.stands.ready;
+    kept = behind.stands.kept;
+    awake = behind.stands.awake;
+    none = behind.stands.deciding.none;
+    going = sym behind.stands.turn.stopped ∙ went.stopped ∙ before.amid.turn.stopped ∙ before.amid.going;
+    limits = went.limits ∙ before.amid.limits ∙ ap limits_by (sym set.settings);
+    waiting = (went.asked (before.amid.waiting, before.amid.placed)).0;
+    placed = (went.asked (before.amid.waiting, before.amid.placed)).1;
+    linked = subst (λ (ns : List ℕ). AreLinked ns y.links) (sym went.peers) (subst (λ (links : List Link). AreLinked (peer_numbers x.desk.peers) links) (sym went.links) before.amid.linked);
+    seated = subst (λ (ns : List ℕ). AreOpen ns y.links) (sym went.numbers) (subst (λ (links : List Link). AreOpen (numbers_of x.desk.state.seats.items) links) (sym went.links) before.amid.seated);
+    given = subst (λ (top : ℕ). All (λ (link : Link). link.0 ≤ top) y.links) (sym went.top) (subst (λ (links : List Link). All (λ (link : Link). link.0 ≤ x.top) links) (sym went.links) before.amid.given);
+    few =
+        few_of (length y.links) (length x.links) (length x.desk.peers) (length y.desk.peers) (ap (λ (links : List Link). length links) went.links) before.amid.few
+        (sym (as_many y.desk.peers) ∙ ap (λ (ns : List ℕ). length ns) went.peers ∙ as_many x.desk.peers);
+    top = top_of t.top s.top x.top y.top set.top before.amid.top went.top;
+    room = subst (λ awake. 256 ≤ vec_capacity awake) (sym went.awake) before.amid.room;
+    away = went.away ∙ before.amid.away;
+  };
+  deciding = behind.stands.deciding;
+  disk = behind.stands.disk;
+}
+
+-- ---- one is taken: what the log gets
+
+seat_due : (i : ℕ) (q : Turn) (d : Due) → due_at i q ≡ Some d → (seat : Seat) × (slice_get q.seats.items i ≡ Some seat)
+seat_due i q d due = by (slice_get q.seats.items i) refl due
+  where
+    by : (o : Option Seat) → slice_get q.seats.items i ≡ o → option_and_then (due_of q) o ≡ Some d → (seat : Seat) × (slice_get q.seats.items i ≡ Some seat)
+    by None here is = absurd (cc is)
+    by (Some seat) here is = (seat, here)
+
+taken_log : (o : Option Instance) (who : ℕ × ℕ) (d : Decision) (s t : State) → Leads (row_notes o ++ Noted (Taken who.0 who.1 d) ∷ []) s t → IsBehind s t
+taken_log None who d s t leads = taken_leads who.0 who.1 d s t leads
+taken_log (Some j) who d s t leads = forgotten_leads j.key who.0 who.1 d s t leads
+
+due_leads : (who : ℕ × ℕ) (i : ℕ) (due : Due) (q : Turn) (s t : State) → Leads (due_log_for who i due q) s t → IsBehind s t
+due_leads who i (Decide d) q s t leads = taken_log (row_in_way (afforded i d q) i q) who (afforded i d q) s t leads
+due_leads who i (CutOff cause) q s t leads = cut_leads who.0 cause s t leads
+
+noted_counts : (r : Remark) (hs : Log) → count_by fails hs ≡ 0 → count_by fails (Noted r ∷ hs) ≡ 0
+noted_counts r hs none = count_first fails (Noted r) hs ∙ omega (arith, none)
+
+taken_counts : (o : Option Instance) (who : ℕ × ℕ) (d : Decision) → count_by fails (row_notes o ++ Noted (Taken who.0 who.1 d) ∷ []) ≡ 0
+taken_counts None who d = noted_counts (Taken who.0 who.1 d) [] refl
+taken_counts (Some j) who d = noted_counts (Forgotten j.key) (Noted (Taken who.0 who.1 d) ∷ []) (noted_counts (Taken who.0 who.1 d) [] refl)
+
+due_counts : (who : ℕ × ℕ) (i : ℕ) (due : Due) (q : Turn) → count_by fails (due_log_for who i due q) ≡ 0
+due_counts who i (Decide d) q = taken_counts (row_in_way (afforded i d q) i q) who (afforded i d q)
+due_counts who i (CutOff cause) q = noted_counts (Cut who.0 cause) [] refl
+
+-- ---- one behind the other
+
+still_deciding : (later : Bool) (phase : Phase) → phase ≡ Deciding → phase_behind later phase ≡ Deciding
+still_deciding true phase is = refl
+still_deciding false phase is = is
+
+abbrev Then : ℕ → KeptMap → Moving → Turn → Log → Moving → Bool → Option (ℕ × Due) → Type 0
+Then more shelf x found log y any due = elim due [
+  | None ↦ (log ≡ []) × (y ≡ with_state found x) × (any ≡ false)
+  | Some d ↦ (next : Moving) × (first : Log) × (rest : Log) × (later : Bool) × (log ≡ first ++ rest) × TakesOne d.0 d.1 (with_state found x) first next × Decides more shelf next rest y later × (any ≡ true)
+]
+
+module _ (terms : List Term) (shelf : KeptMap) (I : Turn → State → Type 0) (supplies : RoundSupplies shelf I) where
+  abbrev Ends : ℕ → Log → Moving → Moving → Log → Bool → State → Type 0
+  Ends more before x y log any s = AreDecided terms before shelf I more x y log any s
+
+  nothing : (more : ℕ) (before : Log) (x y z : Moving) (log : Log) (any : Bool) (s : State) → Obeys terms s before → StandsInRound shelf z s → I z.desk.state s → y ≡ z → log ≡ [] → any ≡ false → (first_due s ≡ None) ⊎ TakesSoMany more shelf x log y → Ends more before x y log any s
+  nothing more before x y z log any s obeys stands holds same none isnt ends = record {
+    then = s;
+    comes = subst (λ (hs : Log). ComesTo terms before hs s s) (sym none) (comes_by terms [] before s s (none_fail s 0 refl) obeys refl);
+    stands = subst (λ (w : Moving). StandsInRound shelf w s) (sym same) stands;
+    holds = subst (λ (w : Moving). I w.desk.state s) (sym same) holds;
+    phase = ap (λ (b : Bool). phase_behind b s.phase) (sym isnt);
+    unless = λ none. refl;
+    ends = ends;
+  }
+
+  one_by : (before : Log) (x : Moving) (s : State) (found : Turn) (d : ℕ × Due) (next : Moving) (first : Log) → Obeys terms s before → StandsInRound shelf x s → I x.desk.state s → FirstDue shelf x.desk.state.awake.items x.desk.state found (Some d)
+      → TakesOne d.0 d.1 (with_state found x) first next → AllDecided shelf I next first s
+  unfolding Decides
+  one_by before x s found d next first obeys stands holds looked takes =
+      decides_on terms shelf I (suc zero) next supplies.decides before x first true s obeys (behind_of shelf x s stands) holds
+      (found, Some d, looked, (next, first, [], false, sym (append-nil first), takes, (refl, refl, refl), refl))
+
+  more_of : (more : ℕ) (x y : Moving) (log : Log) (found : Turn) (d : ℕ × Due) (next : Moving) (first rest : Log) (t : State) → FirstDue shelf x.desk.state.awake.items x.desk.state found (Some d) → log ≡ first ++ rest → TakesOne d.0 d.1 (with_state found x) first next
+      → (first_due t ≡ None) ⊎ TakesSoMany more shelf next rest y → (first_due t ≡ None) ⊎ TakesSoMany (suc more) shelf x log y
+  unfolding TakesSoMany
+  more_of more x y log found d next first rest t looked is takes (inl none) = inl none
+  more_of more x y log found d next first rest t looked is takes (inr so) = inr (found, d.0, d.1, next, first, rest, looked, is, takes, so)
+
+  abbrev Onward : ℕ → Type 0
+  Onward more = (before : Log) (x y : Moving) (log : Log) (any : Bool) (s : State) → Obeys terms s before → StandsInRound shelf x s → I x.desk.state s → Decides more shelf x log y any → Ends more before x y log any s
+
+  step : (more : ℕ) → Onward more → (before : Log) (x y : Moving) (log : Log) (any : Bool) (s : State) → Obeys terms s before → StandsInRound shelf x s → I x.desk.state s → (found : Turn) (due : Option (ℕ × Due)) → FirstDue shelf x.desk.state.awake.items x.desk.state found due
+      → Then more shelf x found log y any due → Ends (suc more) before x y log any s
+  step more onward before x y log any s obeys stands holds found None looked here =
+      let given : FirstDueInMemory shelf x.desk.state.awake.items x.desk.state found None = supplies.decides.given x.desk.state found s None holds looked in
+      let behind : StandsBehind x.desk.peers shelf x.desk.state s = behind_of shelf x s stands in
+      let none : NoneIsNext x.desk.peers shelf found s = none_next behind.number x.desk.peers shelf x.desk.state found s behind.stands (sound_turns terms s before obeys) given in
+      let after_it : I found s = supplies.decides.none x.desk.state found s holds given in
+      nothing (suc more) before x y (with_state found x) log any s obeys
+      (stands_on shelf x (with_state found x) s s stands (went_found x found (first_keeps shelf x.desk.state.awake.items x.desk.state found None given)) (set_itself s) none.behind)
+      after_it here.1 here.0 here.2 (inl none.none)
+  step more onward before x y log any s obeys stands holds found (Some d) looked (next, first, rest, later, is, takes, decides, any_is) =
+      let given : FirstDueInMemory shelf x.desk.state.awake.items x.desk.state found (Some d) = supplies.decides.given x.desk.state found s (Some d) holds looked in
+      let one : AllDecided shelf I next first s = one_by before x s found d next first obeys stands holds looked takes in
+      let seat : (seat : Seat) × (slice_get found.seats.items d.0 ≡ Some seat) = seat_due d.0 found d.1 (found_due shelf x.desk.state.awake.items x.desk.state found d.0 d.1 given) in
+      let who : who_at d.0 found ≡ Some (seat.0.client.id, seat.0.index) = ap (λ (o : Option Seat). option_map (λ (z : Seat). (z.client.id, z.index)) o) seat.1 in
+      let log_is : first ≡ due_log_for (seat.0.client.id, seat.0.index) d.0 d.1 found = takes.log_is ∙ ap (λ (o : Option (ℕ × ℕ)). due_log_of o d.0 d.1 found) who in
+      let law : IsBehind s one.then = due_leads (seat.0.client.id, seat.0.index) d.0 d.1 found s one.then (subst (λ (hs : Log). Leads hs s one.then) log_is one.leads) in
+      let came : ComesTo terms before first s one.then =
+      comes_by terms first before s one.then (none_fail s (count_by fails first) (ap (λ (hs : Log). count_by fails hs) log_is ∙ due_counts (seat.0.client.id, seat.0.index) d.0 d.1 found)) obeys one.leads in
+      let went : Went x next =
+      went_then x (with_state found x) next (went_found x found (first_keeps shelf x.desk.state.awake.items x.desk.state found (Some d) given)) (went_one d.0 d.1 (with_state found x) first next takes) in
+      let there : StandsInRound shelf next one.then = stands_on shelf x next s one.then stands went law.set one.stands in
+      let last : Ends more (before ++ first) next y rest later one.then = onward (before ++ first) next y rest later one.then came.obeys there one.holds decides in
+      record {
+        then = last.then;
+        comes = subst (λ (hs : Log). ComesTo terms before hs s last.then) (sym is) (comes_then terms before first rest s one.then last.then came last.comes);
+        stands = last.stands;
+        holds = last.holds;
+        phase = last.phase ∙ still_deciding later one.then.phase law.phase ∙ ap (λ (b : Bool). phase_behind b s.phase) (sym any_is);
+        unless = λ none. absurd (let bad : true ≡ false = sym any_is ∙ none in cc bad);
+        ends = more_of more x y log found d next first rest last.then looked is takes last.ends;
+      }
+
+  pub decides_round : (more : ℕ) → Onward more
+  unfolding Decides TakesSoMany
+  decides_round zero before x y log any s obeys stands holds it = nothing zero before x y x log any s obeys stands holds it.1 it.0 it.2 (inr (it.0, it.1))
+  decides_round (suc more) before x y log any s obeys stands holds (found, due, first, rest) = step more (decides_round more) before x y log any s obeys stands holds found due first rest
+
+pub decisions : DecisionsInARound
+decisions terms before shelf test more x y log any s supplies obeys stands holds it = decides_round terms shelf (Passes test) supplies more before x y log any s obeys stands holds it

@@ -1,0 +1,87 @@
+-- Rounds lead on, one behind the other.
+use Rattle.std.proofs.Common.{◌≡◌, ◌⊎◌, inl, inr, refl, sym, subst, ap, ◌∙◌, ℕ, zero, suc, Bool, true, false, List, [], ◌++◌, append-nil}
+use Rattle.pp_law.specs.State.{State, Term}
+use Rattle.pp_proxy.specs.Moving.{Moving}
+use Rattle.pp_proxy.specs.Rounds.{GoRounds, GoesRound}
+use Rattle.pp_rounds_law.proofs.Coming.{affords_front, affords_then, comes_then}
+use Rattle.pp_rounds_law.proofs.Round.{rounds_end}
+use Rattle.pp_rounds_law.specs.Coming.{Affords, ComesTo}
+use Rattle.pp_rounds_law.specs.Rounds.{EndsRound, HasGoneRound, RunsOut}
+use Rattle.pp_rounds_law.specs.Supplies.{RoundSupplies}
+use Rattle.pp_rounds_law.specs.Decisions.{Passes}
+use Rattle.pp_state.specs.declared.state.State.{State as Turn}
+use Rattle.pp_store.specs.Kept.{KeptMap}
+use Rattle.pp_world.specs.Log.{Log}
+use Rattle.pp_rounds_law.specs.Loops.{LoopsLead, MayGoRound, RoundsRunOut}
+
+module _ (terms : List Term) (shelf : KeptMap) (test : Turn → State → Bool) (supplies : RoundSupplies shelf (Passes test)) where
+  abbrev Gone : Log → Moving → Log → Bool → State → Type 0
+  Gone before y log any s = HasGoneRound terms before shelf (Passes test) y log any s
+
+  abbrev Ends : Log → Moving → Log → Bool → State → Type 0
+  Ends before y log any s = EndsRound terms before shelf (Passes test) y log any s
+
+  -- behind no more
+  ended : (more : ℕ) (x : Moving) (log : Log) (y : Moving) → GoRounds more shelf false x log y → (log ≡ []) × (y ≡ x)
+  unfolding GoRounds
+  ended zero x log y is = is
+  ended (suc more) x log y is = is
+
+  last : (before first rest log : Log) (next y : Moving) (s : State) → log ≡ first ++ rest → (rest ≡ []) × (y ≡ next) → Ends before next first false s → Ends before y log false s
+  last before first rest log next y s is over round =
+      subst (λ (z : Moving). Ends before z log false s) (sym over.1) (subst (λ (hs : Log). Ends before next hs false s) (sym (is ∙ ap (λ (hs : Log). first ++ hs) over.0 ∙ append-nil first)) round)
+
+  -- one before others
+  before_others : (before first rest log : Log) (next y : Moving) (s : State) → log ≡ first ++ rest → (gone : Gone before next first true s) → Ends (before ++ first) y rest false gone.then → Ends before y log false s
+  before_others before first rest log next y s is gone others = record {
+    gone = record {
+      then = others.gone.then;
+      comes = subst (λ (hs : Log). ComesTo terms before hs s others.gone.then) (sym is) (comes_then terms before first rest s gone.then others.gone.then gone.comes others.gone.comes);
+      stands = others.gone.stands;
+      holds = others.gone.holds;
+      phase = others.gone.phase;
+      none = others.gone.none;
+    };
+    closed = others.closed;
+  }
+
+  abbrev Onward : ℕ → Type 0
+  Onward more = (before : Log) (x y : Moving) (log : Log) (s : State) → MayGoRound terms before shelf (Passes test) x log s → GoRounds more shelf true x log y → Ends before y log false s ⊎ RoundsRunOut more shelf x log y
+
+  step : (more : ℕ) → Onward more → (before : Log) (x y : Moving) (log : Log) (s : State) → MayGoRound terms before shelf (Passes test) x log s → (next : Moving) (first rest : Log) (again : Bool) → log ≡ first ++ rest → GoesRound shelf x first next again → GoRounds more shelf again next rest y
+      → Ends before y log false s ⊎ RoundsRunOut (suc more) shelf x log y
+  unfolding RoundsRunOut
+  step more onward before x y log s begins next first rest again is round others = by again refl (rounds_end terms before shelf test x next first again s supplies begins.obeys (affords_front s first rest affords) begins.stands begins.holds begins.at begins.none round)
+    where
+      affords : Affords s (first ++ rest)
+      affords = subst (λ (hs : Log). Affords s hs) is begins.affords
+
+      on : (gone : Gone before next first true s) → again ≡ true → Ends (before ++ first) y rest false gone.then ⊎ RoundsRunOut more shelf next rest y → Ends before y log false s ⊎ RoundsRunOut (suc more) shelf x log y
+      on gone any (inl last_one) = inl (before_others before first rest log next y s is gone last_one)
+      on gone any (inr out) = inr (next, first, rest, again, is, inr (round, any, out))
+
+      by : (b : Bool) → again ≡ b → Ends before next first again s ⊎ RunsOut shelf x first next again → Ends before y log false s ⊎ RoundsRunOut (suc more) shelf x log y
+      by b any (inr out) = inr (next, first, rest, again, is, inl out)
+      by false any (inl one) =
+          inl
+          (last before first rest log next y s is (ended more next rest y (subst (λ (c : Bool). GoRounds more shelf c next rest y) any others))
+          (subst (λ (c : Bool). Ends before next first c s) any one))
+      by true any (inl one) =
+          let so : Gone before next first true s = (subst (λ (c : Bool). Ends before next first c s) any one).gone in
+          on so any
+          (onward (before ++ first) next y rest so.then (record {
+            obeys = so.comes.obeys;
+            affords = affords_then terms before first rest s so.then so.comes affords;
+            stands = so.stands;
+            holds = so.holds;
+            at = so.phase;
+            none = so.none;
+          }) (subst (λ (c : Bool). GoRounds more shelf c next rest y) any others))
+
+  loop : (more : ℕ) → Onward more
+  unfolding GoRounds RoundsRunOut
+  loop zero before x y log s begins is = inr is
+  loop (suc more) before x y log s begins (next, first, rest, again, is, round, others) = step more (loop more) before x y log s begins next first rest again is round others
+
+pub loops : LoopsLead
+loops terms before shelf test more x y log s supplies begins so = loop terms shelf test supplies more before x y log s begins so

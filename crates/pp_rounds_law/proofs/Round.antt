@@ -1,0 +1,127 @@
+-- One round, step by step.
+use Rattle.std.proofs.Common.{◌≡◌, ◌⊎◌, inl, inr, sym, subst, ap, ◌∙◌, Bool, false, ◌||◌, List, [], ◌++◌, append_assoc, ℕ, Option, None}
+use Rattle.std.specs.Prelude.{is_some}
+use Rattle.pp_deciding_law.specs.Stands.{IsDeciding}
+use Rattle.pp_desk.specs.declared.desk.Desk.{Desk}
+use Rattle.pp_law.specs.Due.{first_due}
+use Rattle.pp_law.specs.Opening.{is_same_phase}
+use Rattle.pp_law.specs.Phases.{has_closings}
+use Rattle.pp_law.specs.State.{State, Phase, Term, Deciding, DecidingAgain}
+use Rattle.pp_links.specs.Links.{Link}
+use Rattle.pp_obeys.specs.Obeys.{Obeys}
+use Rattle.pp_proxy.specs.Deciding.{Decides, DecidesAll, turned_links, turned_log}
+use Rattle.pp_proxy.specs.Moving.{Moving, moving, with_desk}
+use Rattle.pp_proxy.specs.Rounds.{GoesRound}
+use Rattle.pp_rounds_law.specs.Decisions.{Passes}
+use Rattle.pp_state.specs.declared.state.State.{State as Turn}
+use Rattle.pp_store.specs.Kept.{KeptMap}
+use Rattle.pp_world.specs.Log.{Log}
+use Rattle.pp_rounds_law.proofs.Closing.{has_closed}
+use Rattle.pp_rounds_law.proofs.Coming.{affords_front, affords_then, comes_then}
+use Rattle.pp_rounds_law.proofs.Decided.{decides_round}
+use Rattle.pp_rounds_law.proofs.Following.{has_followed}
+use Rattle.pp_rounds_law.proofs.Placing.{places_end}
+use Rattle.pp_rounds_law.specs.Coming.{Affords, ComesTo}
+use Rattle.pp_rounds_law.specs.InRounds.{AreDecided, TakesSoMany, phase_behind}
+use Rattle.pp_rounds_law.specs.Rounds.{EndsRound, HasGoneRound, RoundsEnd, RoundsLead, RunsOut}
+use Rattle.pp_rounds_law.specs.Stands.{StandsInRound}
+use Rattle.pp_rounds_law.specs.Steps.{HasClosed, HasFollowed, HavePlacesNow, PlacesRunOut}
+use Rattle.pp_rounds_law.specs.Supplies.{RoundSupplies, followed}
+
+-- ---- nobody is turned away
+
+record IsTurned (shelf : KeptMap) (x : Moving) (log : Log) (y : Moving) (any : Bool) : Type 0 where
+  decides : Decides 65536 shelf x log y any
+
+turned_none : (shelf : KeptMap) (x : Moving) (log : Log) (y : Moving) (any : Bool) → x.desk.turned_away ≡ None → DecidesAll shelf x log y any → IsTurned shelf x log y any
+turned_none shelf x log y any away all =
+    let first : all.first ≡ [] = all.turned.log_is ∙ ap (λ (o : Option ℕ). turned_log o x.links) away in
+    let desk : all.between.desk ≡ x.desk = all.turned.desk ∙ ap (λ (o : Option ℕ). record x.desk { turned_away = o }) (sym away) in
+    let links : all.between.links ≡ x.links = all.turned.links ∙ ap (λ (o : Option ℕ). turned_links o x.links) away in
+    let between : all.between ≡ x = ap (λ (d : Desk). moving d all.between.links all.between.top) desk ∙ ap (λ (ls : List Link). moving x.desk ls all.between.top) links ∙ ap (λ (n : ℕ). moving x.desk x.links n) all.turned.top in
+    let log_is : log ≡ all.rest = all.log_is ∙ ap (λ (hs : Log). hs ++ all.rest) first in
+    let any_is : any ≡ all.later = all.any_is ∙ ap (λ (o : Option ℕ). is_some o || all.later) away in
+    record {
+      decides =
+          subst (λ (b : Bool). Decides 65536 shelf x log y b) (sym any_is)
+          (subst (λ (hs : Log). Decides 65536 shelf x hs y all.later) (sym log_is) (subst (λ (z : Moving). Decides 65536 shelf z all.rest y all.later) between all.decides));
+    }
+
+-- ---- all of it
+
+module _ (terms : List Term) (before : Log) (shelf : KeptMap) (I : Turn → State → Type 0) (x y : Moving) (log : Log) (any : Bool) (s : State) (supplies : RoundSupplies shelf I) (obeys : Obeys terms s before) (affords : Affords s log) (stands : StandsInRound shelf x s) (holds : I x.desk.state s)
+    (at : s.phase ≡ Deciding) (none : first_due s ≡ None) (round : GoesRound shelf x log y any) where
+  abbrev number : ℕ → ℕ
+  number = stands.number
+
+  abbrev asked : Moving
+  asked = with_desk round.asked x
+
+  silent : HasFollowed terms before number shelf I asked s
+  silent = has_followed terms before number shelf I x round.seen round.given round.asked s supplies obeys stands.amid holds at none round.drops round.gives round.fills
+
+  closed : HasClosed terms (before ++ []) number shelf I round.closed round.closing (followed s)
+  closed = has_closed terms (before ++ []) number shelf I asked round.closed round.closing (followed s) supplies silent.comes.obeys silent.amid silent.holds silent.phase round.closes
+
+  abbrev behind_closings : Log
+  behind_closings = (before ++ []) ++ round.closing
+
+  log_is : log ≡ round.closing ++ (round.placing ++ round.deciding)
+  log_is = round.log_is ∙ append_assoc round.closing round.placing round.deciding
+
+  afford_all : Affords (followed s) (round.closing ++ (round.placing ++ round.deciding))
+  afford_all = affords_then terms before [] (round.closing ++ (round.placing ++ round.deciding)) s (followed s) silent.comes (subst (λ (hs : Log). Affords s hs) log_is affords)
+
+  afford_places : Affords closed.then round.placing
+  afford_places = affords_front closed.then round.placing round.deciding (affords_then terms (before ++ []) round.closing (round.placing ++ round.deciding) (followed s) closed.then closed.comes afford_all)
+
+  deciding_at : (t : State) → t.phase ≡ DecidingAgain → t.made_room_for ≡ None → IsDeciding t
+  deciding_at t is room = record { at = ap (λ (f : Phase). is_same_phase Deciding f || is_same_phase DecidingAgain f) is; none = room }
+
+  module _ (have : HavePlacesNow terms behind_closings number shelf I round.placed round.placing closed.then) where
+    stands_again : StandsInRound shelf round.placed have.then
+    stands_again = record {
+      number = number;
+      amid = have.amid;
+      deciding = deciding_at have.then have.phase have.amid.none;
+      disk = supplies.keeps round.placed.desk.state have.then have.holds;
+    }
+
+    decided : AreDecided terms (behind_closings ++ round.placing) shelf I 65536 round.placed y round.deciding any have.then
+    decided =
+        decides_round terms shelf I supplies 65536 (behind_closings ++ round.placing) round.placed y round.deciding any have.then have.comes.obeys stands_again have.holds
+        (turned_none shelf round.placed round.deciding y any have.amid.away round.decides).decides
+
+    comes : ComesTo terms before log s decided.then
+    comes =
+        subst (λ (hs : Log). ComesTo terms before hs s decided.then) (sym log_is)
+        (comes_then terms before [] (round.closing ++ (round.placing ++ round.deciding)) s (followed s) decided.then silent.comes
+        (comes_then terms (before ++ []) round.closing (round.placing ++ round.deciding) (followed s) closed.then decided.then closed.comes
+        (comes_then terms behind_closings round.placing round.deciding closed.then have.then decided.then have.comes decided.comes)))
+
+    ends_by : (first_due decided.then ≡ None) ⊎ TakesSoMany 65536 shelf round.placed round.deciding y → EndsRound terms before shelf I y log any s ⊎ RunsOut shelf x log y any
+    ends_by (inl nothing) = inl (record {
+      gone = record { then = decided.then; comes = comes; stands = decided.stands; holds = decided.holds; phase = decided.phase ∙ ap (λ (p : Phase). phase_behind any p) have.phase; none = nothing };
+      closed = λ none_more. subst (λ (t : State). has_closings t ≡ false) (sym (decided.unless none_more)) have.closed;
+    })
+    ends_by (inr out) = inr (record { round = round; out = inr out })
+
+  by_places : HavePlacesNow terms behind_closings number shelf I round.placed round.placing closed.then ⊎ PlacesRunOut round.closed round.placing round.placed → EndsRound terms before shelf I y log any s ⊎ RunsOut shelf x log y any
+  by_places (inl have) = ends_by have (decided have).ends
+  by_places (inr out) = inr (record { round = round; out = inl out })
+
+  pub goes_round : EndsRound terms before shelf I y log any s ⊎ RunsOut shelf x log y any
+  goes_round =
+      by_places
+      (places_end terms behind_closings number shelf I round.closed round.placed round.placing closed.then supplies closed.comes.obeys closed.amid closed.holds afford_places closed.phase closed.closed round.places)
+
+pub rounds_end : RoundsEnd
+rounds_end terms before shelf test x y log any s supplies obeys affords stands holds at none round = goes_round terms before shelf (Passes test) x y log any s supplies obeys affords stands holds at none round
+
+led_by : (terms : List Term) (before : Log) (shelf : KeptMap) (I : Turn → State → Type 0) (x y : Moving) (log : Log) (any : Bool) (s : State) → EndsRound terms before shelf I y log any s ⊎ RunsOut shelf x log y any → HasGoneRound terms before shelf I y log any s ⊎ RunsOut shelf x log y any
+led_by terms before shelf I x y log any s (inl ends) = inl ends.gone
+led_by terms before shelf I x y log any s (inr out) = inr out
+
+pub rounds : RoundsLead
+rounds terms before shelf test x y log any s supplies obeys affords stands holds at none round =
+    led_by terms before shelf (Passes test) x y log any s (goes_round terms before shelf (Passes test) x y log any s supplies obeys affords stands holds at none round)

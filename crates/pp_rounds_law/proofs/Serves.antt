@@ -1,0 +1,90 @@
+-- A turn goes round, and ends.
+use Rattle.std.proofs.Common.{◌≡◌, ◌≤◌, ◌⊎◌, inl, inr, refl, sym, subst, ap, ◌∙◌, ℕ, ◌+◌, Bool, false, List, ◌++◌, length}
+use Rattle.std.specs.List.{All}
+use Rattle.std.specs.Prelude.{vec_capacity}
+use Rattle.pp_cache.specs.Bounds.{IsBounded}
+use Rattle.pp_closings_law.specs.Log.{AreLinked}
+use Rattle.pp_conf.specs.Conf.{Settings}
+use Rattle.pp_deciding_law.specs.Stands.{StandsToDecide}
+use Rattle.pp_desk.specs.Closings.{peer_numbers}
+use Rattle.pp_desk.specs.declared.desk.Desk.{Desk}
+use Rattle.pp_law.specs.Phases.{ending}
+use Rattle.pp_law.specs.State.{State, Term}
+use Rattle.pp_links.specs.Links.{Link}
+use Rattle.pp_obeys.proofs.Frames.{Frame}
+use Rattle.pp_obeys.proofs.StaysTurns.{ending-frame}
+use Rattle.pp_peers.specs.declared.peers.Peer.{Peer}
+use Rattle.pp_peers.specs.declared.placing.Limits.{Limits}
+use Rattle.pp_places_law.specs.Closings.{AreOpen}
+use Rattle.pp_proxy.specs.Moving.{Moving}
+use Rattle.pp_proxy.specs.Rounds.{Serves}
+use Rattle.pp_rounds_law.specs.Rounds.{EndsRound, HasGoneRound}
+use Rattle.pp_rounds_law.specs.Stands.{StandsAmid}
+use Rattle.pp_rounds_law.specs.Decisions.{Passes}
+use Rattle.pp_rounds_law.proofs.Begun.{Begun, CanBeAsked, all_begun}
+use Rattle.pp_rounds_law.proofs.Ended.{ends}
+use Rattle.pp_rounds_law.specs.Ends.{HasEnded}
+use Rattle.pp_state.specs.Ends.{numbers_of}
+use Rattle.pp_state.specs.declared.state.State.{State as Turn}
+use Rattle.pp_store.specs.Kept.{KeptMap}
+use Rattle.pp_world.specs.Log.{Log}
+use Rattle.pp_rounds_law.proofs.Loops.{loops}
+use Rattle.pp_rounds_law.specs.Loops.{MayGoRound, RoundsRunOut}
+use Rattle.pp_rounds_law.specs.Serves.{EndSupplies, HasServed, ServesLead, ServesNoMore, StaysSet}
+
+module _ (terms : List Term) (before : Log) (shelf : KeptMap) (test : Turn → State → Bool) (x y : Moving) (log : Log) (s : State) (supplies : EndSupplies shelf (Passes test)) (may : MayGoRound terms before shelf (Passes test) x log s) (serves : Serves shelf x log y) (bounded : IsBounded y.desk.state.cache)
+    (round : EndsRound terms before shelf (Passes test) serves.between log false s) where
+  abbrev gone : HasGoneRound terms before shelf (Passes test) serves.between log false s
+  gone = round.gone
+
+  abbrev mid : Moving
+  mid = serves.between
+
+  amid : StandsAmid gone.stands.number shelf mid gone.then
+  amid = gone.stands.amid
+
+  to_decide : StandsToDecide gone.stands.number mid.desk.peers shelf mid.desk.state gone.then
+  to_decide = record { deciding = gone.stands.deciding; turn = amid.turn; disk = gone.stands.disk; ready = amid.ready; kept = amid.kept; awake = amid.awake }
+
+  ended : HasEnded gone.stands.number shelf y.desk gone.then
+  ended =
+      ends terms gone.stands.number (before ++ log) shelf mid.desk y.desk gone.then gone.comes.obeys
+      (record { stands = to_decide; at = gone.phase; done = gone.none; closed = round.closed refl; begins = supplies.begins gone.stands.number mid.desk gone.then gone.holds to_decide })
+      serves.begins bounded
+
+  begun : Begun mid.desk.state.awake.items mid.desk.state y.desk.state
+  begun = all_begun mid.desk.state.awake.items mid.desk.state y.desk.state serves.begins.is
+
+  same_peers : y.desk.peers ≡ mid.desk.peers
+  same_peers = ap (λ (d : Desk). d.peers) serves.begins.rest
+
+  same_set : (ending gone.then).settings ≡ gone.then.settings
+  same_set = ap (λ (f : Frame). f.settings) (ending-frame false gone.then)
+
+  asked : CanBeAsked y.desk.state.flow
+  asked = begun.asked (amid.waiting, amid.placed)
+
+  set : StaysSet y (ending gone.then)
+  set = record {
+    limits = ap (λ (t : Turn). t.limits) begun.rest ∙ amid.limits ∙ ap (λ (c : Settings). let l : Limits = record { host_connections = c.host_connections; pipelines_asks = c.pipelines_asks } in l) (sym same_set);
+    waiting = asked.0;
+    placed = asked.1;
+    linked = subst (λ (ps : List Peer). AreLinked (peer_numbers ps) y.links) (sym same_peers) (subst (λ (ls : List Link). AreLinked (peer_numbers mid.desk.peers) ls) (sym serves.links) amid.linked);
+    seated = subst (λ (ns : List ℕ). AreOpen ns y.links) (sym serves.begins.numbers) (subst (λ (ls : List Link). AreOpen (numbers_of mid.desk.state.seats.items) ls) (sym serves.links) amid.seated);
+    given = subst (λ (n : ℕ). All (λ link. link.0 ≤ n) y.links) (sym serves.top) (subst (λ (ls : List Link). All (λ link. link.0 ≤ mid.top) ls) (sym serves.links) amid.given);
+    few = subst (λ (ps : List Peer). length y.links ≤ 256 + length ps) (sym same_peers) (subst (λ (ls : List Link). length ls ≤ 256 + length mid.desk.peers) (sym serves.links) amid.few);
+    top = subst (λ (n : ℕ). (ending gone.then).top ≤ n) (sym serves.top) (subst (λ (n : ℕ). n ≤ mid.top) (sym ended.top) amid.top);
+    room = subst (λ (n : ℕ). 256 ≤ n) (sym (ap (λ (t : Turn). vec_capacity t.awake) begun.rest)) amid.room;
+    away = ap (λ (d : Desk). d.turned_away) serves.begins.rest ∙ amid.away;
+    going = ap (λ (f : Frame). f.is_stopped) (ending-frame false gone.then) ∙ amid.going;
+  }
+
+  served : HasServed terms before shelf y log s
+  served = record { then = gone.then; comes = gone.comes; number = gone.stands.number; ended = ended; set = set }
+
+pub serves : ServesLead
+serves terms before shelf test x y log s supplies ends_too may served_so bounded = by (loops terms before shelf test 65536 x served_so.between log s supplies may served_so.rounds)
+  where
+    by : EndsRound terms before shelf (Passes test) served_so.between log false s ⊎ RoundsRunOut 65536 shelf x log served_so.between → HasServed terms before shelf y log s ⊎ ServesNoMore shelf x log
+    by (inl gone) = inl (served terms before shelf test x y log s ends_too may served_so bounded gone)
+    by (inr out) = inr (record { between = served_so.between; out = out })

@@ -1,0 +1,62 @@
+-- Behind its decisions a turn goes round, and then replies begin: the law lets it wait there (RFC 2616, sections 6, 8.1 and 8.1.4; the order is
+-- ours).
+use Rattle.std.specs.Prelude.{◌≡◌, ◌≤◌, ◌+◌, ◌⊎◌, ℕ, Bool, false, List, length, vec_capacity, None}
+use Rattle.std.specs.List.{All}
+use Rattle.pp_cache.specs.Bounds.{IsBounded}
+use Rattle.pp_closings_law.specs.Log.{AreLinked}
+use Rattle.pp_deciding_law.specs.Stands.{StandsToDecide}
+use Rattle.pp_desk.specs.Closings.{peer_numbers}
+use Rattle.pp_desk.specs.declared.desk.Desk.{Desk}
+use Rattle.pp_law.specs.Connections.{limits}
+use Rattle.pp_law.specs.Phases.{ending}
+use Rattle.pp_law.specs.State.{State, Term}
+use Rattle.pp_places_law.specs.Around.{AreAskable}
+use Rattle.pp_places_law.specs.Closings.{AreOpen}
+use Rattle.pp_proxy.specs.Moving.{Moving}
+use Rattle.pp_proxy.specs.Rounds.{Serves}
+use Rattle.pp_rounds_law.specs.Coming.{ComesTo}
+use Rattle.pp_rounds_law.specs.Supplies.{RoundSupplies}
+use Rattle.pp_rounds_law.specs.Decisions.{Passes}
+use Rattle.pp_rounds_law.specs.Ends.{AllMayBeginNow, HasEnded}
+use Rattle.pp_state.specs.Ends.{numbers_of}
+use Rattle.pp_state.specs.declared.state.State.{State as Turn}
+use Rattle.pp_store.specs.Kept.{KeptMap}
+use Rattle.pp_world.specs.Log.{Log}
+use Rattle.pp_rounds_law.specs.Loops.{MayGoRound, RoundsRunOut}
+
+-- what the end rests on beside that of rounds, as long as that holds
+pub record EndSupplies (shelf : KeptMap) (I : Turn → State → Type 0) : Type 0 where
+  -- what each reply that begins rests on, beside what stands
+  pub begins : (number : ℕ → ℕ) (p : Desk) (s : State) → I p.state s → StandsToDecide number p.peers shelf p.state s → AllMayBeginNow number p s
+
+-- connections, and what is set, stand as in a round (Stands.`StandsAmid`)
+pub record StaysSet (y : Moving) (s : State) : Type 0 where
+  pub limits : y.desk.state.limits ≡ limits s
+  pub waiting : AreAskable y.desk.state.flow.waiting
+  pub placed : AreAskable y.desk.state.flow.placed
+  pub linked : AreLinked (peer_numbers y.desk.peers) y.links
+  pub seated : AreOpen (numbers_of y.desk.state.seats.items) y.links
+  pub given : All (λ link. link.0 ≤ y.top) y.links
+  pub few : length y.links ≤ 256 + length y.desk.peers
+  pub top : s.top ≤ y.top
+  pub room : 256 ≤ vec_capacity y.desk.state.awake
+  pub away : y.desk.turned_away ≡ None
+  pub going : s.is_stopped ≡ false
+
+-- the log goes on so, the turn may wait in that state, and what it has shows the state at its end
+pub record HasServed (terms : List Term) (before : Log) (shelf : KeptMap) (y : Moving) (log : Log) (s : State) : Type 0 where
+  pub then : State
+  pub comes : ComesTo terms before log s then
+  pub number : ℕ → ℕ
+  pub ended : HasEnded number shelf y.desk then
+  pub set : StaysSet y (ending then)
+
+-- rounds ran out, up to there, and replies began behind it
+pub record ServesNoMore (shelf : KeptMap) (x : Moving) (log : Log) : Type 0 where
+  pub between : Moving
+  pub out : RoundsRunOut 65536 shelf x log between
+
+-- the cache is bounded, as each is
+abbrev pub ServesLead : Type 0
+ServesLead = (terms : List Term) (before : Log) (shelf : KeptMap) (test : Turn → State → Bool) (x y : Moving) (log : Log) (s : State) → RoundSupplies shelf (Passes test) → EndSupplies shelf (Passes test) → MayGoRound terms before shelf (Passes test) x log s → Serves shelf x log y
+    → IsBounded y.desk.state.cache → HasServed terms before shelf y log s ⊎ ServesNoMore shelf x log

@@ -1,0 +1,94 @@
+-- Behind the disk a turn decides, and then goes round, or at Stop closes all: from the first decision of a turn to its end (RFC 2616, sections
+-- 8.1 and 8.1.4; the order is ours). A client for whom there was no memory is left out: where one is, the law has it and the program does not,
+-- up to its cut.
+use Rattle.std.specs.Prelude.{◌≡◌, ◌⊎◌, Bool, true, false, List, [], ◌++◌, length, None}
+use Rattle.std.specs.List.{list_any}
+use Rattle.pp_cache.specs.Bounds.{IsBounded}
+use Rattle.pp_closings_law.specs.Log.{AreLinked}
+use Rattle.pp_deciding_law.specs.Stands.{StandsBehind}
+use Rattle.pp_desk.specs.Closings.{peer_numbers}
+use Rattle.pp_law.specs.Closing.{is_over}
+use Rattle.pp_law.specs.Permits.{is_over as may_be_over}
+use Rattle.pp_law.specs.State.{State, Term, Deciding}
+use Rattle.pp_obeys.specs.Obeys.{Obeys}
+use Rattle.pp_places_law.specs.Closings.{AreOpen}
+use Rattle.pp_proxy.specs.Moving.{Moving}
+use Rattle.pp_proxy.specs.Settling.{Settles}
+use Rattle.pp_rounds_law.specs.Coming.{Affords, ComesTo}
+use Rattle.pp_rounds_law.specs.InRounds.{TakesSoMany}
+use Rattle.pp_rounds_law.specs.Stands.{StandsInRound}
+use Rattle.pp_rounds_law.specs.Supplies.{RoundSupplies}
+use Rattle.pp_rounds_law.specs.Decisions.{Passes, Supplies}
+use Rattle.pp_rounds_law.specs.Stops.{NobodyIsLeft}
+use Rattle.pp_state.specs.Ends.{numbers_of}
+use Rattle.pp_state.specs.Numbers.{places}
+use Rattle.pp_state.specs.declared.state.State.{State as Turn}
+use Rattle.pp_store.specs.Kept.{KeptMap}
+use Rattle.pp_world.specs.Log.{Log}
+use Rattle.pp_rounds_law.specs.Serves.{EndSupplies, HasServed, ServesNoMore}
+
+-- ---- before Stop
+
+-- decisions come next, beside a log that obeys the law; nobody is turned away (`StandsInRound`)
+pub record MaySettle (terms : List Term) (before : Log) (shelf : KeptMap) (I : Turn → State → Type 0) (x : Moving) (log : Log) (s : State) : Type 0 where
+  pub obeys : Obeys terms s before
+  pub affords : Affords s log
+  pub stands : StandsInRound shelf x s
+  pub holds : I x.desk.state s
+  pub at : s.phase ≡ Deciding
+
+-- decisions ran out, or rounds did: nothing is claimed
+pub record SettlesNoMore (shelf : KeptMap) (x : Moving) (log : Log) : Type 0 where
+  pub between : Moving
+  pub first : Log
+  pub rest : Log
+  pub log_is : log ≡ first ++ rest
+  pub out : TakesSoMany 65536 shelf x first between ⊎ ServesNoMore shelf between rest
+
+-- the cache is bounded, as each is
+abbrev pub SettlesLead : Type 0
+SettlesLead = (terms : List Term) (before : Log) (shelf : KeptMap) (test : Turn → State → Bool) (x y : Moving) (log : Log) (s : State) → RoundSupplies shelf (Passes test) → EndSupplies shelf (Passes test) → MaySettle terms before shelf (Passes test) x log s → Settles shelf x log y
+    → IsBounded y.desk.state.cache → HasServed terms before shelf y log s ⊎ SettlesNoMore shelf x log
+
+-- ---- at Stop
+
+-- what decisions rest on there, beside what stands; no exchange is nobody's and nowhere, and none of it leaves the phase of decisions
+pub record StopSupplies (shelf : KeptMap) (I : Turn → State → Type 0) : Type 0 where
+  pub decides : Supplies shelf I
+  -- each decision, and each cut, leads there
+  pub at : (p : Turn) (s : State) → I p s → s.phase ≡ Deciding
+  -- as `RestsOn` of `pp_deciding_law` has it: no source yet
+  pub going : (p : Turn) (s : State) → I p s → list_any is_over s.exchanges ≡ false
+
+pub record StandsAtStop (shelf : KeptMap) (x : Moving) (s : State) : Type 0 where
+  -- what stands amid decisions
+  pub behind : StandsBehind x.desk.peers shelf x.desk.state s
+  -- as `Stops` of `pp_proxy` leaves it: decisions leave both
+  pub stopped : x.desk.state.is_stopped ≡ true
+  pub awake : x.desk.state.awake.items ≡ places (length x.desk.state.seats.items)
+  -- from one opening, dial and closing to the next
+  pub clients : AreOpen (numbers_of x.desk.state.seats.items) x.links
+  pub origins : AreLinked (peer_numbers x.desk.peers) x.links
+  -- only the event's own client may be turned away, and Stop has none
+  pub away : x.desk.turned_away ≡ None
+
+-- the log goes on so, to where nobody is there, and all is done: it may end
+pub record HasStopped (terms : List Term) (before : Log) (y : Moving) (log : Log) (s : State) : Type 0 where
+  pub then : State
+  pub comes : ComesTo terms before log s then
+  pub clients : then.clients ≡ []
+  pub conns : then.conns ≡ []
+  pub over : may_be_over then ≡ true
+  pub nobody : NobodyIsLeft y
+
+-- decisions ran out: nothing is claimed
+pub record StopsNoMore (shelf : KeptMap) (x : Moving) (log : Log) : Type 0 where
+  pub between : Moving
+  pub first : Log
+  pub rest : Log
+  pub log_is : log ≡ first ++ rest
+  pub out : TakesSoMany 65536 shelf x first between
+
+abbrev pub StopsLead : Type 0
+StopsLead = (terms : List Term) (before : Log) (shelf : KeptMap) (test : Turn → State → Bool) (x y : Moving) (log : Log) (s : State) → StopSupplies shelf (Passes test) → Obeys terms s before → Affords s log → StandsAtStop shelf x s → Passes test x.desk.state s → Settles shelf x log y
+    → HasStopped terms before y log s ⊎ StopsNoMore shelf x log
