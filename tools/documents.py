@@ -231,8 +231,8 @@ def stated():
 
 
 def laws_of(crate):
-    """The functions of a crate that do nothing and have a clause."""
-    law = re.compile(r"^pub fn (\w+)\(\)\s*\n(?:[ \t]+requires[^\n]*\n)*[ \t]+ensures[^{}]*(?:\{[^{}]*\}\s*(?:ensures[^{}]*)?)+\{\}", re.MULTILINE)
+    """The functions of a crate that do nothing, but that they may call laws below, and have a clause."""
+    law = re.compile(r"^pub fn (\w+)\(\)\s*\n(?:[ \t]+requires[^\n]*\n)*[ \t]+ensures[^{}]*(?:\{[^{}]*\}\s*(?:ensures[^{}]*)?)+\{(?:\s*\w+\(\);\s*)*\}", re.MULTILINE)
     return {name for file in (TOP / "crates" / crate / "src").rglob("*.rt") for name in law.findall(file.read_text())}
 
 
