@@ -1,9 +1,12 @@
 pub mod Amid
 pub mod Awaited
 pub mod BadOnes
+pub mod Behind
 pub mod Brings
+pub mod Cleared
 pub mod Delivers
 pub mod Early
+pub mod EndsThere
 pub mod Fronts
 pub mod Given
 pub mod Going
@@ -13,6 +16,8 @@ pub mod Lost
 pub mod Nothing
 pub mod Passing
 pub mod ReadOn
+pub mod ReadWhole
 pub mod RowsIn
+pub mod Still
 pub mod There
 pub mod WholeOnes

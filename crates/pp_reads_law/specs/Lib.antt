@@ -1,10 +1,14 @@
 pub mod Amid
 pub mod Awaits
 pub mod Bads
+pub mod Clears
 pub mod Data
+pub mod Empties
 pub mod Gots
 pub mod Heads
 pub mod Interims
+pub mod Pauses
 pub mod Pieces
+pub mod Reads
 pub mod Rows
 pub mod Wholes

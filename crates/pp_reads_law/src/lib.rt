@@ -5,11 +5,13 @@
 //! go, `Wholes` what its end leaves, and `Bads` what is made of what is no response, or comes too early. `Pieces` joins these amid a body: the
 //! steps of the pipe up to the end of the body, or of the read, are one piece of the law. `Awaits` has one step where a head is awaited,
 //! `Interims` how the law comes to the text that is read there, and `Gots` joins both: the step is what the law gets, up to the end of that
-//! head. `Amid` is the relation.
+//! head; `Clears` has what stands before it. `Empties` has the end of an empty body, which the law has with its head, and `Pauses` a step amid
+//! a body that finds no byte left. `Reads` joins all of them, by induction over the steps of the pipe: a whole read, from its first byte to
+//! its last, where what each piece rests on is supplied by whatever holds from one to the next. `Amid` is the relation.
 //!
-//! Not said: a head to the ask of a follower, and one that is passed and names other places; the end of an empty body, which the law has with
-//! its head; a step within a body that finds no byte left; and so a whole read, from its first byte to its last, for which each state
-//! between two pieces has to hold what a piece rests on. Nor is anything said where memory was refused for a row.
+//! Not said: that something supplies it, of which `Reads` has the sources one by one; a head to the ask of a follower, and one that is passed
+//! and names other places; and the replies that end behind a read, which are in `pp_endings_law`. Nor is anything said where memory was
+//! refused for a row.
 //!
 //! To the layer above: each is the clause of a function that does nothing. It is one part of the proof that the program obeys the law. The
 //! words of the program stand in `pp_origins` and `pp_due`, which say of each function which it computes.
@@ -19,9 +21,13 @@
 
 mod awaits; // what a read brings where a head is awaited
 mod bads; // what is no response, or comes too early
+mod clears; // a head that came, with what stands before it
 mod data; // data of a response
+mod empties; // the end of an empty body
 mod heads; // the final head of a response
+mod pauses; // no byte is left amid a body
 mod pieces; // what a read brings amid a body
+mod reads; // a whole read
 mod rows; // the row that is kept of the key of an exchange
 mod wholes; // a response is whole
 
@@ -29,8 +35,12 @@ pub use awaits::{
     heads_are_awaited_as_the_laws, heads_are_got_as_the_laws, interim_heads_are_passed,
 };
 pub use bads::bad_responses_are_the_laws;
+pub use clears::heads_are_got_there;
 pub use data::data_come_as_the_laws;
+pub use empties::empty_bodies_end_as_the_laws;
 pub use heads::heads_come_as_the_laws;
+pub use pauses::pauses_change_nothing;
 pub use pieces::bodies_are_read_as_the_laws;
+pub use reads::reads_are_got_as_the_laws;
 pub use rows::rows_are_brought_as_the_laws;
 pub use wholes::whole_responses_end_as_the_laws;
