@@ -1,14 +1,18 @@
 pub mod Asked
 pub mod Asking
 pub mod Begun
+pub mod Bounded
 pub mod Carried
 pub mod Closing
 pub mod Coming
 pub mod Decided
 pub mod Decisions
+pub mod Dials
 pub mod Ended
+pub mod Exchanges
 pub mod Following
 pub mod Follows
+pub mod Led
 pub mod Left
 pub mod Logged
 pub mod Loops
@@ -31,4 +35,5 @@ pub mod StopEnds
 pub mod Stopped
 pub mod There
 pub mod Unturned
+pub mod Waits
 pub mod Went

@@ -1,7 +1,10 @@
+pub mod Bounds
 pub mod Coming
 pub mod Decisions
+pub mod Dials
 pub mod Ends
 pub mod InRounds
+pub mod Led
 pub mod Loops
 pub mod Rounds
 pub mod Serves

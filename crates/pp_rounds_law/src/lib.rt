@@ -10,6 +10,11 @@
 //! on beside what stands, each with its source or that there is none yet. `Coming` is how the log goes on, which joins over happenings and over
 //! phases that are done, and from which what stands is kept.
 //!
+//! A dial may be refused wherever the places of a round come to (`Dials`), as often as the outside may fail: an attempt is lost, and where its
+//! exchange is over, those that are looked at are so still, what each follows is there, the cache is bounded (`Bounds`), and there is room for
+//! what followers ask. So places lead from a log that obeys the law (`Led`), but for what has no source yet: that memory was refused for no
+//! row, that what is kept of a body ends with a chunk or with the body, and that no count ends at 2^64.
+//!
 //! `Loops`: rounds, one behind the other, lead to where nothing is due behind a round that decided nothing. `Ends`: there the law lets a turn
 //! wait, and replies that begin show what the law has at its end; `Serves` joins both. `Stops`: at Stop all clients and then all origins leave
 //! the log's connections, one behind the other, and the log may end. The program neither drops what nobody sees nor gives up asks then, and the
@@ -24,16 +29,20 @@
 #![tactic(auto)]
 
 mod amid; // the decisions of a round
+mod bounding; // the cache is bounded where a dial is refused
 mod deciding; // all decisions
 mod ending; // replies begin
 mod going; // the steps of a round, and all of it
 mod keeping; // what is come to is kept
+mod leading; // places lead, whatever dials answer
 mod looping; // rounds, one behind the other
+mod refusing; // dials, wherever places come to
 mod serving; // and replies begin
 mod settling; // from the first decision on
 mod stopping; // all are closed
 
 pub use amid::decisions_of_a_round_are_the_laws;
+pub use bounding::refused_dials_leave_the_cache_bounded;
 pub use deciding::all_decisions_lead_as_by_the_law;
 pub use ending::turns_end_as_the_laws;
 pub use going::{
@@ -41,7 +50,9 @@ pub use going::{
     places_of_a_round_are_the_laws, rounds_lead_as_by_the_law,
 };
 pub use keeping::what_is_come_to_is_kept;
+pub use leading::places_lead_where_dials_are_refused;
 pub use looping::loops_lead_as_by_the_law;
+pub use refusing::dials_may_be_refused;
 pub use serving::turns_serve_as_by_the_law;
 pub use settling::{turns_settle_as_by_the_law, turns_stop_as_by_the_law};
 pub use stopping::stops_are_the_laws;

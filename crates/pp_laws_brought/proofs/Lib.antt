@@ -1,0 +1,12 @@
+pub mod View
+pub mod Cases
+pub mod Rows
+pub mod Store
+pub mod Asks
+pub mod Heads
+pub mod Fits
+pub mod Ends
+pub mod Got
+pub mod Turns
+pub mod Happenings
+pub mod Laws

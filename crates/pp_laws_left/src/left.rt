@@ -1,0 +1,13 @@
+// What a turn leaves of replies, and of places where no head is.
+ghost use Rattle.pp_laws_left.specs.Left.{EndsAreLeft, TurnsAreLeft};
+
+/// No reply goes on behind its end, one that is passed has no bytes of a row, and any other has its row; and a place where no head is
+/// has a page, once something was decided for it.
+pub fn turns_are_left()
+    ensures left { TurnsAreLeft }
+{}
+
+/// So it is in the state in which a turn ends, before replies begin.
+pub fn ends_are_left()
+    ensures left { EndsAreLeft }
+{}
