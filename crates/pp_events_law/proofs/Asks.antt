@@ -80,11 +80,14 @@ use Rattle.pp_world.specs.declared.wire.WireFault.{WireFault}
 use Rattle.pp_events_law.proofs.Asked.{IsNextIn, ask_may, ask_rest, line_of_next, next_in, same_bytes, take_short}
 use Rattle.pp_events_law.proofs.AskedOf.{find_asker, find_nobody, heard_is}
 use Rattle.pp_events_law.proofs.Calls.{is_linked, its_side, told_as}
-use Rattle.pp_events_law.proofs.Gone.{IsSoundAmid, ShowsGone, amid_by, gone_handled}
+use Rattle.pp_events_law.proofs.Gone.{IsGone, IsSoundAmid, ShowsGone, amid_by, gone_handled, gone_left, gone_next}
+use Rattle.pp_events_law.proofs.Left.{AreLeft, left_flow, set_left}
+use Rattle.pp_events_law.proofs.ReadyBehind.{ready_behind}
 use Rattle.pp_events_law.proofs.Standing.{HasWords, may_as, one_leads, open_as, steps_as, turn_by}
 use Rattle.pp_events_law.proofs.Touched.{link_of, none_client}
 use Rattle.pp_events_law.specs.Asks.{AskingsLead, MayAsk}
-use Rattle.pp_events_law.specs.Stands.{AreReadyAt, HasLed, IsHandled, StandsAtEvent}
+use Rattle.pp_events_law.specs.Ready.{HasLedReady, StaysReady}
+use Rattle.pp_events_law.specs.Stands.{AreReadyAt, IsHandled, StandsAtEvent}
 
 -- ---- numbers and bytes
 
@@ -176,6 +179,10 @@ module _ (terms : List Term) (log : Log) (number : ℕ → ℕ) (x y : Turning) 
 
   -- ---- so much was asked
 
+  record HasAsked (n : ℕ) : Type 0 where
+    handled : IsHandled number y.moving (paid (ask k n s))
+    stays_ready : StaysReady number x y (paid (ask k n s))
+
   module _ (n : ℕ) (z : Sides) (is : sides new ≡ z) (steps : ShowsSteps number name none_leaves z.peers z.parts (ask k n s)) (seats : numbers_of z.parts.seats ≡ numbers_of p.seats.items) (cache : z.parts.cache ≡ p.cache) (peers : peer_numbers z.peers ≡ peer_numbers old.peers)
       (silent : (i : ℕ) (seat : Seat) → slice_get z.parts.seats i ≡ Some seat → (was : Seat) × (slice_get p.seats.items i ≡ Some was) × (is_silent seat ≡ is_silent was))
       (follow : (i : ℕ) (seat : Seat) → slice_get z.parts.seats i ≡ Some seat → seat.is_closing ≡ false → IsFollowing p.cache seat) where
@@ -232,17 +239,27 @@ module _ (terms : List Term) (log : Log) (number : ℕ → ℕ) (x y : Turning) 
       follows = λ i seat here going. subst (λ (m : Memory). IsFollowing m seat) (sym (ap (λ (q : Sides). q.parts.cache) is ∙ cache)) (follow i seat (ap (λ (q : Sides). slice_get q.parts.seats i) (sym is) ∙ here) going);
     }
 
+    asked_ready : AreLeft (parts p) z.parts → StaysReady number x y (paid (ask k n s))
+    unfolding paid regained
+    asked_ready left = ready_behind number x y s (paid (ask k n s)) (stays (λ v. v.next_instance) refl) (subst (λ (q : Sides). AreLeft (parts p) q.parts) (sym is) left) asked_handled.follows ready
+
+    asked_stays : AreLeft (parts p) z.parts → HasAsked n
+    asked_stays left = record { handled = asked_handled; stays_ready = asked_ready left }
+
   -- the happening leads there
-  module _ (n : ℕ) (bytes : Bytes) (same : bytes ≡ left_to_ask s e) (few : n ≤ length bytes) (told : AppendsAll x.log y.log (write_log k bytes (Some (Ok n)))) (handled : IsHandled number y.moving (paid (ask k n s))) where
-    asked_led : HasLed number x y s
+  module _ (n : ℕ) (bytes : Bytes) (same : bytes ≡ left_to_ask s e) (few : n ≤ length bytes) (told : AppendsAll x.log y.log (write_log k bytes (Some (Ok n)))) (has_asked : HasAsked n) where
+    asked_led : HasLedReady number x y s
     asked_led = record {
-      log = Asked k (take n bytes) ∷ [];
-      then = paid (ask k (length (take n bytes)) s);
-      handled = record {
-        told = told_as x.log y.log (write_log k bytes (Some (Ok n))) (Asked k (take n bytes) ∷ []) told (λ l is. ap (λ (o : Option Side). by_side o (Said k (length bytes) (take n bytes)) (Asked k (take n bytes)) ∷ []) (side l is));
-        leads = one_leads s (paid (ask k (length (take n bytes)) s)) (Asked k (take n bytes)) refl (goes_asked s k (take n bytes) e stands.law.none stands.law.owes may.next (front_is n bytes (left_to_ask s e) same few may.some));
-        handled = subst (λ (m : ℕ). IsHandled number y.moving (paid (ask k m s))) (sym (length-take-le n bytes few)) handled;
+      led = record {
+        log = Asked k (take n bytes) ∷ [];
+        then = paid (ask k (length (take n bytes)) s);
+        handled = record {
+          told = told_as x.log y.log (write_log k bytes (Some (Ok n))) (Asked k (take n bytes) ∷ []) told (λ l is. ap (λ (o : Option Side). by_side o (Said k (length bytes) (take n bytes)) (Asked k (take n bytes)) ∷ []) (side l is));
+          leads = one_leads s (paid (ask k (length (take n bytes)) s)) (Asked k (take n bytes)) refl (goes_asked s k (take n bytes) e stands.law.none stands.law.owes may.next (front_is n bytes (left_to_ask s e) same few may.some));
+          handled = subst (λ (m : ℕ). IsHandled number y.moving (paid (ask k m s))) (sym (length-take-le n bytes few)) has_asked.handled;
+        };
       };
+      ready = subst (λ (m : ℕ). StaysReady number x y (paid (ask k m s))) (sym (length-take-le n bytes few)) has_asked.stays_ready;
     }
 
   -- ---- the write failed
@@ -276,30 +293,51 @@ module _ (terms : List Term) (log : Log) (number : ℕ → ℕ) (x y : Turning) 
   owed_it : is_owed s k ≡ true
   owed_it = ap (λ (o : Owed). is_reading o k || is_writing o k) stands.law.owes ∙ same_itself k
 
-  broken : (fault : WireFault) (bytes : Bytes) → AppendsAll x.log y.log (write_log k bytes (Some (Err fault))) → EndsReplies p.awake.items (origin_gone false k (sides old)) (sides new) → HasLed number x y s
+  abbrev EndsGone : Type 0
+  EndsGone = EndsReplies p.awake.items (origin_gone false k (sides old)) (sides new)
+
+  is_gone : EndsGone → IsGone k old new
+  is_gone ends = record { ends = ends; numbers = asks.numbers; rest = asks.rest }
+
+  broken_handled : EndsGone → IsHandled number y.moving (paid (gone false k s))
+  broken_handled ends = gone_handled number k old x.moving.links x.moving.top s j y.moving has_shown (is_gone ends) bounded asks.one.links asks.one.top
+
+  broken_left : EndsGone → AreLeft (parts p) (parts new.state)
+  broken_left ends = gone_left number k old x.moving.links x.moving.top s j y.moving has_shown (is_gone ends) bounded asks.one.links asks.one.top
+
+  broken_next : EndsGone → (gone false k s).next_instance ≡ s.next_instance
+  broken_next ends = gone_next number k old x.moving.links x.moving.top s j y.moving has_shown (is_gone ends) bounded asks.one.links asks.one.top
+
+  broken_ready : EndsGone → StaysReady number x y (paid (gone false k s))
+  unfolding paid regained
+  broken_ready ends = ready_behind number x y s (paid (gone false k s)) (broken_next ends) (broken_left ends) (broken_handled ends).follows ready
+
+  broken : (fault : WireFault) (bytes : Bytes) → AppendsAll x.log y.log (write_log k bytes (Some (Err fault))) → EndsReplies p.awake.items (origin_gone false k (sides old)) (sides new) → HasLedReady number x y s
   broken fault bytes told ends = record {
-    log = Broke k ∷ [];
-    then = paid (gone false k (event s));
-    handled = record {
-      told = told_as x.log y.log (write_log k bytes (Some (Err fault))) (Broke k ∷ []) told (λ l is. ap (λ (o : Option Side). by_side o (HungUp k) (Broke k) ∷ []) (side l is));
-      leads = one_leads s (paid (gone false k (event s))) (Broke k) refl (goes_broke s k stands.law.none owed_it (ap (λ (o : Option Conn). is_some o) may.there));
-      handled = subst (λ (v : State). IsHandled number y.moving (paid (gone false k v))) (sym event_is)
-          (gone_handled number k old x.moving.links x.moving.top s j y.moving has_shown (record { ends = ends; numbers = asks.numbers; rest = asks.rest }) bounded asks.one.links asks.one.top);
+    led = record {
+      log = Broke k ∷ [];
+      then = paid (gone false k (event s));
+      handled = record {
+        told = told_as x.log y.log (write_log k bytes (Some (Err fault))) (Broke k ∷ []) told (λ l is. ap (λ (o : Option Side). by_side o (HungUp k) (Broke k) ∷ []) (side l is));
+        leads = one_leads s (paid (gone false k (event s))) (Broke k) refl (goes_broke s k stands.law.none owed_it (ap (λ (o : Option Conn). is_some o) may.there));
+        handled = subst (λ (v : State). IsHandled number y.moving (paid (gone false k v))) (sym event_is) (broken_handled ends);
+      };
     };
+    ready = subst (λ (v : State). StaysReady number x y (paid (gone false k v))) (sym event_is) (broken_ready ends);
   }
 
   -- ---- by what the call took
 
-  module _ (bytes : Bytes) (same : bytes ≡ left_to_ask s e) (took_as : ℕ → Sides → Sides) (of : IsAskedOf k bytes p.awake.items x.moving.links took_as (sides old) (sides new) x.log y.log) (shown : (n : ℕ) → n ≤ length bytes → sides new ≡ took_as n (sides old) → IsHandled number y.moving (paid (ask k n s))) where
+  module _ (bytes : Bytes) (same : bytes ≡ left_to_ask s e) (took_as : ℕ → Sides → Sides) (of : IsAskedOf k bytes p.awake.items x.moving.links took_as (sides old) (sides new) x.log y.log) (shown : (n : ℕ) → n ≤ length bytes → sides new ≡ took_as n (sides old) → HasAsked n) where
     called : is_some of.took ≡ true
     called = of.called ∙ ap₂ (λ (a b : Bool). a && b) (is_linked k x.moving.links (k, OfOrigin) link) (ap (λ (xs : Bytes). nat_lt 0 (length xs)) same ∙ some_length (left_to_ask s e) may.some)
 
-    by_took : (took : Took) → is_some took ≡ true → AppendsAll x.log y.log (write_log k bytes took) → IfSome took (λ r. IfOk r (λ n. n ≤ length bytes)) → TakenAs took k p.awake.items took_as (sides old) (sides new) → HasLed number x y s
+    by_took : (took : Took) → is_some took ≡ true → AppendsAll x.log y.log (write_log k bytes took) → IfSome took (λ r. IfOk r (λ n. n ≤ length bytes)) → TakenAs took k p.awake.items took_as (sides old) (sides new) → HasLedReady number x y s
     by_took None none told within is = absurd (cc none)
     by_took (Some (Ok n)) some told within is = asked_led n bytes same within told (shown n within is)
     by_took (Some (Err fault)) some told within is = broken fault bytes told is
 
-    led : HasLed number x y s
+    led : HasLedReady number x y s
     led = by_took of.took called of.told of.within of.is
 
   -- ---- of its text
@@ -350,9 +388,9 @@ module _ (terms : List Term) (log : Log) (number : ℕ → ℕ) (x y : Turning) 
       refused = stands.desk.turn.steps.refused;
     }
 
-    text_led : HasLed number x y s
+    text_led : HasLedReady number x y s
     text_led = led (take left its.peer.pipe.out) text_same (text_asked k e.number p.now) text_of
-        (λ n few is. asked_handled n (text_sides n) (is ∙ text_is n few) (text_steps n few) refl refl (piped_numbers k (taken n its.peer.pipe) old.peers) (λ i seat here. (seat, here, refl)) (λ i seat here going. (ready i seat here going).follows))
+        (λ n few is. asked_stays n (text_sides n) (is ∙ text_is n few) (text_steps n few) refl refl (piped_numbers k (taken n its.peer.pipe) old.peers) (λ i seat here. (seat, here, refl)) (λ i seat here going. (ready i seat here going).follows) (left_flow (parts p) (text_sides n).parts.flow))
 
   -- ---- of the body of its request
 
@@ -428,13 +466,16 @@ module _ (terms : List Term) (log : Log) (number : ℕ → ℕ) (x y : Turning) 
             let one : body_sent n sits.seat ≡ seat = some_is (body_sent n sits.seat) seat (sym (get_set i p.seats.items sits.seat (body_sent n sits.seat) sits.there) ∙ ap (λ (q : ℕ). slice_get (slice_set p.seats.items i (body_sent n sits.seat)) q) (is_same i l is) ∙ here) in
             subst (λ (o : Seat). IsFollowing p.cache o) one (λ a id answer source. (ready i sits.seat sits.there (ap (λ (o : Seat). o.is_closing) one ∙ on)).follows a id answer source)
 
-    body_led : HasLed number x y s
+    body_left_so : (n : ℕ) → AreLeft (parts p) (body_sides n).parts
+    body_left_so n = record { was = λ l seat here. set_left i p.seats.items sits.seat (body_sent n sits.seat) sits.there (record { going = λ on. on; joins = λ id plain is. is }) l seat here; lives = refl; there = λ id is. is }
+
+    body_led : HasLedReady number x y s
     body_led = led bytes_of body_same (body_asked e.number i) body_of
-        (λ n few is. asked_handled n (body_sides n) (is ∙ body_is n) (body_steps n few) (numbers_set i p.seats.items sits.seat (body_sent n sits.seat) sits.there refl) refl refl (λ l seat here. body_silent n l seat here) (λ l seat here on. body_follows n l seat here on))
+        (λ n few is. asked_stays n (body_sides n) (is ∙ body_is n) (body_steps n few) (numbers_set i p.seats.items sits.seat (body_sent n sits.seat) sits.there refl) refl refl (λ l seat here. body_silent n l seat here) (λ l seat here on. body_follows n l seat here on) (body_left_so n))
 
   -- ---- either
 
-  nobody_heard : is_outstanding e ≡ true → find (is_for e) s.clients ≡ None → HasLed number x y s
+  nobody_heard : is_outstanding e ≡ true → find (is_for e) s.clients ≡ None → HasLedReady number x y s
   nobody_heard out none =
       absurd
       (let both : true ≡ false =
@@ -444,21 +485,21 @@ module _ (terms : List Term) (log : Log) (number : ℕ → ℕ) (x y : Turning) 
       ∙ may.some in
       cc both)
 
-  by_place : is_outstanding e ≡ true → (m : ℕ) → e.asker ≡ Some m → (o : Option ℕ) → place_of m (numbers_of p.seats.items) ≡ o → HasLed number x y s
+  by_place : is_outstanding e ≡ true → (m : ℕ) → e.asker ≡ Some m → (o : Option ℕ) → place_of m (numbers_of p.seats.items) ≡ o → HasLedReady number x y s
   by_place out m asker None none = nobody_heard out (find_asker e m asker s.clients ∙ none_client number name m p.seats.items s.clients stands.desk.turn.steps.shows.clients (no_place m p.seats.items none))
   by_place out m asker (Some i) there = body_led out m i asker there
 
-  by_asker : is_outstanding e ≡ true → (o : Option ℕ) → e.asker ≡ o → HasLed number x y s
+  by_asker : is_outstanding e ≡ true → (o : Option ℕ) → e.asker ≡ o → HasLedReady number x y s
   by_asker out None none = nobody_heard out (find_nobody e none s.clients)
   by_asker out (Some m) asker = by_place out m asker (place_of m (numbers_of p.seats.items)) refl
 
-  by_kind : (b : Bool) → is_outstanding e ≡ b → HasLed number x y s
+  by_kind : (b : Bool) → is_outstanding e ≡ b → HasLedReady number x y s
   by_kind false out = text_led out
   by_kind true out = by_asker out e.asker refl
 
-  all_led : HasLed number x y s
+  all_led : HasLedReady number x y s
   all_led = by_kind (is_outstanding e) refl
 
 pub askings : AskingsLead
 askings terms log number k x y s j e obeys stands ready may bounded asks =
-    subst (λ (n : ℕ). StandsAtEvent number Handling (WriteTo n) x.moving s → MayAsk n x s j e → AsksOn n x y → HasLed number x y s) (is_same j.number k (find_passes (is_conn k) s.conns j may.there)) (λ stand may_ask asks_on. all_led terms log number x y s j e obeys stand ready may_ask bounded asks_on) stands may asks
+    subst (λ (n : ℕ). StandsAtEvent number Handling (WriteTo n) x.moving s → MayAsk n x s j e → AsksOn n x y → HasLedReady number x y s) (is_same j.number k (find_passes (is_conn k) s.conns j may.there)) (λ stand may_ask asks_on. all_led terms log number x y s j e obeys stand ready may_ask bounded asks_on) stands may asks

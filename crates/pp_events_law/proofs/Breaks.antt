@@ -44,9 +44,12 @@ use Rattle.pp_world.specs.declared.event.Event.TheVariants.{Broken}
 use Rattle.pp_world.specs.declared.happening.Happening.TheVariants.{Broke}
 use Rattle.pp_events_law.proofs.Alike.{AreAlike, WasAlike, awake_alike, ready_alike}
 use Rattle.pp_events_law.proofs.Anew.{all_anew, anew_may}
-use Rattle.pp_events_law.proofs.Gone.{IsSoundAmid, ShowsGone, amid_by, gone_handled}
+use Rattle.pp_events_law.proofs.Gone.{IsGone, IsSoundAmid, ShowsGone, amid_by, gone_handled, gone_left, gone_next}
+use Rattle.pp_events_law.proofs.Left.{AreLeft, alike_left, left_then}
+use Rattle.pp_events_law.proofs.ReadyBehind.{ready_behind}
 use Rattle.pp_events_law.proofs.Standing.{HasWords, may_as, one_leads, open_as, steps_as}
 use Rattle.pp_events_law.specs.Breaks.{BreaksLead, MayBreak}
+use Rattle.pp_events_law.specs.Ready.{StaysReady}
 use Rattle.pp_events_law.specs.Stands.{AreReadyAt, IsHandled, StandsAtEvent, come}
 
 -- ---- what is sound amid it
@@ -148,14 +151,31 @@ module _ (terms : List Term) (log : Log) (number : ℕ → ℕ) (k : ℕ) (x y :
     opened = open_as x.moving (moving anew x.moving.links x.moving.top) s.top w.top breaks.regains.numbers (ap (λ (ps : List Peer). peer_numbers ps) peers_are) refl refl refl stands.opened;
   }
 
+  is_gone : IsGone k anew new
+  is_gone = record { ends = breaks.ends; numbers = breaks.numbers; rest = breaks.rest }
+
   break_handled : IsHandled number y.moving (paid (gone false k w))
-  break_handled = gone_handled number k anew x.moving.links x.moving.top w j y.moving has_shown (record { ends = breaks.ends; numbers = breaks.numbers; rest = breaks.rest }) bounded silent.links silent.top
+  break_handled = gone_handled number k anew x.moving.links x.moving.top w j y.moving has_shown is_gone bounded silent.links silent.top
+
+  break_left : AreLeft (parts old.state) (parts new.state)
+  break_left = left_then (parts old.state) (parts anew.state) (parts new.state) (alike_left (parts old.state) (parts anew.state) anew_alike) (gone_left number k anew x.moving.links x.moving.top w j y.moving has_shown is_gone bounded silent.links silent.top)
+
+  break_next : (gone false k w).next_instance ≡ s.next_instance
+  unfolding event regained
+  break_next = gone_next number k anew x.moving.links x.moving.top w j y.moving has_shown is_gone bounded silent.links silent.top
+
+  break_ready : StaysReady number x y (paid (gone false k w))
+  unfolding paid regained
+  break_ready = ready_behind number x y s (paid (gone false k w)) break_next break_left break_handled.follows ready
 
   break_leads : Leads (Broke k ∷ []) s (paid (gone false k w))
   break_leads = one_leads s (paid (gone false k w)) (Broke k) refl (goes_broke_waiting s k stands.law.none stands.law.at (ap (λ (o : Option Conn). is_some o) may.there))
 
 pub breaks : BreaksLead
-breaks terms log number k x y s j obeys stands ready may bounded handles = record {
-  leads = break_leads terms log number k x y s j obeys stands ready may bounded handles.0 handles.1;
-  handled = break_handled terms log number k x y s j obeys stands ready may bounded handles.0 handles.1;
-}
+breaks terms log number k x y s j obeys stands ready may bounded handles = (
+  record {
+    leads = break_leads terms log number k x y s j obeys stands ready may bounded handles.0 handles.1;
+    handled = break_handled terms log number k x y s j obeys stands ready may bounded handles.0 handles.1;
+  },
+  break_ready terms log number k x y s j obeys stands ready may bounded handles.0 handles.1,
+)

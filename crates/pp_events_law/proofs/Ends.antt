@@ -24,7 +24,7 @@ use Rattle.pp_law.specs.After.{paid}
 use Rattle.pp_law.specs.Closing.{is_of}
 use Rattle.pp_law.specs.Connections.{is_exchange}
 use Rattle.pp_law.specs.Lists.{Bytes, has_number}
-use Rattle.pp_law.specs.Replies.{end_replies}
+use Rattle.pp_law.specs.Replies.{end_replies, regained}
 use Rattle.pp_law.specs.State.{State, Client, Exchange, Owed, Handling, Free}
 use Rattle.pp_laws.specs.Runs.{IsIn}
 use Rattle.pp_laws_turn.specs.SoundTurn.{IsSoundTurn}
@@ -35,7 +35,7 @@ use Rattle.pp_seats.specs.Follows.{answer_in}
 use Rattle.pp_seats.specs.declared.seat.Seat.{Seat}
 use Rattle.pp_seats.specs.declared.seat.Stage.{Stage}
 use Rattle.pp_seats_law.specs.Seats.{ShowsSeat}
-use Rattle.pp_state.specs.Ends.{numbers_of, parts}
+use Rattle.pp_state.specs.Ends.{Parts, numbers_of, parts}
 use Rattle.pp_state.specs.Numbers.{with_number}
 use Rattle.pp_state.specs.declared.state.State.{State as Turn}
 use Rattle.pp_steps_law.specs.Steps.{ShowsSteps}
@@ -45,10 +45,13 @@ use Rattle.pp_turns_law.specs.Marks.{AreLoud}
 use Rattle.pp_turns_law.specs.Turns.{IsFollowing}
 use Rattle.pp_events_law.proofs.Beside.{AreBeside, replies_beside}
 use Rattle.pp_events_law.proofs.Heard.{IsSameReply}
+use Rattle.pp_events_law.proofs.Left.{AreLeft, IsLeft, left_then, replies_left, set_left}
 use Rattle.pp_events_law.proofs.Newcomer.{rising}
+use Rattle.pp_events_law.proofs.ReadyBehind.{ready_behind}
 use Rattle.pp_events_law.proofs.Sourced.{follow_of}
 use Rattle.pp_events_law.proofs.Standing.{HasWords, may_as, open_as, steps_as, turn_by}
 use Rattle.pp_events_law.specs.Hears.{AreSettled}
+use Rattle.pp_events_law.specs.Ready.{StaysReady}
 use Rattle.pp_events_law.specs.Stands.{AreReadyAt, IsHandled, StandsAtEvent}
 
 -- ---- lists
@@ -243,3 +246,13 @@ module _ (number : ℕ → ℕ) (i : ℕ) (x y : Turning) (seat : Seat) (owed : 
     pub end_handled : IsHandled number y.moving (paid (end_replies m))
     unfolding paid
     end_handled = record { handled = u; anew = refl; stands = end_stands; follows = follow_of number name behind.peers (parts behind.state) (end_replies m) ended.shows.steps ended.may.follow }
+
+    all_left : IsLeft seat new → AreLeft (parts p) (parts behind.state)
+    all_left left =
+        let changed : Parts = record (parts p) { seats = seats } in
+        left_then (parts p) changed (parts behind.state) (record { was = λ j other at. set_left i p.seats.items seat new here left j other at; lives = refl; there = λ id is. is })
+        (subst (λ (z : Sides). AreLeft z.parts (parts behind.state)) next_is (replies_left looked.state.awake.items next (sides behind) ends))
+
+    pub end_ready : IsLeft seat new → StaysReady number x y (paid (end_replies m))
+    unfolding paid regained
+    end_ready left = ready_behind number x y s (paid (end_replies m)) (stays (λ t. t.next_instance) refl refl) (all_left left) end_handled.follows ready

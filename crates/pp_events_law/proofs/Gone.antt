@@ -46,6 +46,7 @@ use Rattle.pp_events_law.proofs.Alike.{AreAlike, WasAlike, as_long, silent_as}
 use Rattle.pp_events_law.proofs.Beside.{AreBeside, replies_beside}
 use Rattle.pp_events_law.proofs.Closed.{closes}
 use Rattle.pp_events_law.proofs.Ends.{in_exchanges}
+use Rattle.pp_events_law.proofs.Left.{AreLeft, alike_left, left_then, replies_left}
 use Rattle.pp_events_law.proofs.Sourced.{follow_alike, follow_of}
 use Rattle.pp_events_law.proofs.Standing.{HasWords, may_as, open_as, steps_as, turn_by}
 use Rattle.pp_events_law.specs.Stands.{AreOpen, IsHandled, StandsAtEvent}
@@ -214,3 +215,9 @@ module _ (number : ℕ → ℕ) (k : ℕ) (d : Desk) (links : List Link) (top : 
   pub gone_handled : IsHandled number y (paid (gone false k w))
   unfolding paid
   gone_handled = record { handled = u; anew = refl; stands = gone_stands; follows = follow_of number name new.peers (parts new.state) (gone false k w) has_ended.shows.steps has_ended.may.follow }
+
+  pub gone_left : AreLeft (parts d.state) (parts new.state)
+  gone_left = left_then (parts d.state) z.parts (parts new.state) (alike_left (parts d.state) z.parts gone_alike) (replies_left d.state.awake.items z (sides new) is.ends)
+
+  pub gone_next : (gone false k w).next_instance ≡ w.next_instance
+  gone_next = stays (λ t. t.next_instance) refl refl

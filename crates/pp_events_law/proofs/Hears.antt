@@ -46,11 +46,13 @@ use Rattle.pp_world.specs.declared.event.Side.TheVariants.{Client as OfClient}
 use Rattle.pp_world.specs.declared.happening.Happening.TheVariants.{Broke, Ended, Got as GotBytes, Heard, HungUp, NoneYet}
 use Rattle.pp_world.specs.declared.wire.WireFault.{WireFault}
 use Rattle.pp_events_law.proofs.Calls.{is_linked, its_side, told_as}
-use Rattle.pp_events_law.proofs.Ends.{end_handled}
+use Rattle.pp_events_law.proofs.Ends.{end_handled, end_ready}
 use Rattle.pp_events_law.proofs.Heard.{IsSameReply, client_may, heard_follows, heard_through, hung_through, read_same}
+use Rattle.pp_events_law.proofs.Left.{IsLeft, left_as, read_left}
 use Rattle.pp_events_law.proofs.Touched.{client_link}
 use Rattle.pp_events_law.specs.Hears.{AreSettled, HearingsLead, MayHear}
-use Rattle.pp_events_law.specs.Stands.{AreReadyAt, HasLed, IsHandled, StandsAtEvent}
+use Rattle.pp_events_law.specs.Ready.{HasLedReady, StaysReady}
+use Rattle.pp_events_law.specs.Stands.{AreReadyAt, IsHandled, StandsAtEvent}
 
 -- ---- of the law: where no reply is over, and nobody is finished, nothing ends
 
@@ -188,6 +190,10 @@ module _ (number : ℕ → ℕ) (id i : ℕ) (x y : Turning) (seat : Seat) (s : 
     handled is =
         end_handled number i x y seat (ReadOf id) s stands ready sound may.here may.still may.settled hears.roused hears.rouses may.looks new (on_client id f s) shown (client_may id f goes s stands.desk.may) like rest next (next_as new is) hears.hears.2 hears.numbers hears.rest hears.one.links hears.one.top bounded
 
+    stays_ready : IsLeft seat new → next.parts.seats ≡ slice_set seats i new → StaysReady number x y (paid (end_replies (on_client id f s)))
+    stays_ready left is =
+        end_ready number i x y seat (ReadOf id) s stands ready sound may.here may.still may.settled hears.roused hears.rouses may.looks new (on_client id f s) shown (client_may id f goes s stands.desk.may) like rest next (next_as new is) hears.hears.2 hears.numbers hears.rest hears.one.links hears.one.top bounded left
+
   -- ---- bytes came
 
   abbrev heard : Bytes → Seat
@@ -229,63 +235,88 @@ module _ (number : ℕ → ℕ) (id i : ℕ) (x y : Turning) (seat : Seat) (s : 
       within = subst (λ (m : ℕ). m ≤ room_of seat.client.heard) (sym as_long) (within_room (room_of seat.client.heard) (length hears.roused.buffer.items) (length read.front) n read.room found.1.1);
     }
 
-    came : HasLed number x y s
+    now_like : IsSameReply seat after
+    now_like = record { id = like.id; stage = like.stage; reply = like.reply; closing = like.closing }
+
+    now_shown : (c : Client) → ShowsSeat number name [] seat c → ShowsSeat number name [] after (heard_by bytes c)
+    now_shown c shows = reads number name [] seat after c bytes shows (sym shows.closing ∙ may.going) is_read
+
+    was_read : IsLeft (heard bytes) after
+    was_read = read_left (heard bytes) after is_read
+
+    came : HasLedReady number x y s
     came = record {
-      log = Heard id bytes ∷ [];
-      then = paid (end_replies (on_client id (heard_by bytes) s));
-      handled = record {
-        told = told_as x.log y.log (read_log seat.client.id (Some (Ok (Came n))) read.front) (Heard id bytes ∷ []) found.0
-            (λ l told. ap₂ (λ (o : Option Side) (m : ℕ). by_side o (Heard m bytes) (GotBytes m bytes) ∷ []) (side l told) its_id);
-        leads = (reads_lead number id i [] seats seat after bytes s sitting has_come is_read owes).0;
-        handled = handled after (heard_by bytes) (record { id = like.id; stage = like.stage; reply = like.reply; closing = like.closing }) (heard_through bytes) (heard_follows bytes)
-            (λ c shows. reads number name [] seat after c bytes shows (sym shows.closing ∙ may.going) is_read) becomes;
+      led = record {
+        log = Heard id bytes ∷ [];
+        then = paid (end_replies (on_client id (heard_by bytes) s));
+        handled = record {
+          told = told_as x.log y.log (read_log seat.client.id (Some (Ok (Came n))) read.front) (Heard id bytes ∷ []) found.0
+              (λ l told. ap₂ (λ (o : Option Side) (m : ℕ). by_side o (Heard m bytes) (GotBytes m bytes) ∷ []) (side l told) its_id);
+          leads = (reads_lead number id i [] seats seat after bytes s sitting has_come is_read owes).0;
+          handled = handled after (heard_by bytes) now_like (heard_through bytes) (heard_follows bytes) now_shown becomes;
+        };
       };
+      ready = stays_ready after (heard_by bytes) now_like (heard_through bytes) (heard_follows bytes) now_shown (record { going = was_read.going; joins = was_read.joins }) becomes;
     }
 
   -- ---- no more comes
 
-  hangs_up : AppendsAll x.log y.log (λ l. HungUp id ∷ []) → next.parts.seats ≡ slice_set seats i (record seat { has_hung_up = true }) → HasLed number x y s
+  hangs_up : AppendsAll x.log y.log (λ l. HungUp id ∷ []) → next.parts.seats ≡ slice_set seats i (record seat { has_hung_up = true }) → HasLedReady number x y s
   hangs_up told becomes = record {
-    log = HungUp id ∷ [];
-    then = paid (end_replies (on_client id hung_up s));
-    handled = record {
-      told = told;
-      leads = (hang_ups_lead number id i [] seats seat s sitting owes).0;
-      handled = handled (record seat { has_hung_up = true }) hung_up (record { id = refl; stage = refl; reply = refl; closing = refl }) hung_through (λ other c. refl) (λ c shows. hang_ups number name [] seat c shows) becomes;
+    led = record {
+      log = HungUp id ∷ [];
+      then = paid (end_replies (on_client id hung_up s));
+      handled = record {
+        told = told;
+        leads = (hang_ups_lead number id i [] seats seat s sitting owes).0;
+        handled = handled (record seat { has_hung_up = true }) hung_up (record { id = refl; stage = refl; reply = refl; closing = refl }) hung_through (λ other c. refl) (λ c shows. hang_ups number name [] seat c shows) becomes;
+      };
     };
+    ready = stays_ready (record seat { has_hung_up = true }) hung_up (record { id = refl; stage = refl; reply = refl; closing = refl }) hung_through (λ other c. refl) (λ c shows. hang_ups number name [] seat c shows) (record { going = λ on. on; joins = λ k plain is. is }) becomes;
   }
 
-  ended : found_as (Some (Ok End)) → HasLed number x y s
+  ended : found_as (Some (Ok End)) → HasLedReady number x y s
   ended found = hangs_up (told_as x.log y.log (read_log seat.client.id (Some (Ok End)) read.front) (HungUp id ∷ []) found.0 (λ l told. ap₂ (λ (o : Option Side) (m : ℕ). by_side o (HungUp m) (Ended m) ∷ []) (side l told) its_id))
       (found.2.seats ∙ set_at (heard_at (Some (Ok End)) read.front))
 
-  failed : (fault : WireFault) → found_as (Some (Err fault)) → HasLed number x y s
+  failed : (fault : WireFault) → found_as (Some (Err fault)) → HasLedReady number x y s
   failed fault found = hangs_up (told_as x.log y.log (read_log seat.client.id (Some (Err fault)) read.front) (HungUp id ∷ []) found.0 (λ l told. ap₂ (λ (o : Option Side) (m : ℕ). by_side o (HungUp m) (Broke m) ∷ []) (side l told) its_id))
       (found.2.seats ∙ set_at (heard_at (Some (Err fault)) read.front))
 
   -- ---- nothing came yet
 
-  nothing : found_as (Some (Ok NotYet)) → HasLed number x y s
+  none_over : end_replies s ≡ s
+  none_over = none_ends s (λ n c there. all_rest number name seats s.clients stands.desk.turn.steps.shows.clients may.settled n c there)
+
+  same_steps : ShowsSteps number name none_leaves old.peers (record (parts p) { seats = slice_set seats i seat }) s
+  same_steps = subst (λ (ss : List Seat). ShowsSteps number name none_leaves old.peers (record (parts p) { seats = ss }) s) (sym (set_same i seats seat may.here)) stands.desk.turn.steps
+
+  nothing : found_as (Some (Ok NotYet)) → HasLedReady number x y s
   nothing found = record {
-    log = NoneYet id ∷ [];
-    then = paid s;
-    handled = record {
-      told = told_as x.log y.log (read_log seat.client.id (Some (Ok NotYet)) read.front) (NoneYet id ∷ []) found.0 (λ l told. ap (λ (m : ℕ). NoneYet m ∷ []) its_id);
-      leads = nones_lead number id [] seats s owes;
-      handled = subst (λ (t : State). IsHandled number y.moving (paid t)) (none_ends s (λ n c there. all_rest number name seats s.clients stands.desk.turn.steps.shows.clients may.settled n c there))
-          (end_handled number i x y seat (ReadOf id) s stands ready sound may.here may.still may.settled hears.roused hears.rouses may.looks seat s (subst (λ (ss : List Seat). ShowsSteps number name none_leaves old.peers (record (parts p) { seats = ss }) s) (sym (set_same i seats seat may.here)) stands.desk.turn.steps) stands.desk.may
-          (record { id = refl; stage = refl; reply = refl; closing = refl }) refl next (next_as seat (found.2.seats ∙ set_at (heard_at (Some (Ok NotYet)) read.front))) hears.hears.2 hears.numbers hears.rest hears.one.links hears.one.top bounded);
+    led = record {
+      log = NoneYet id ∷ [];
+      then = paid s;
+      handled = record {
+        told = told_as x.log y.log (read_log seat.client.id (Some (Ok NotYet)) read.front) (NoneYet id ∷ []) found.0 (λ l told. ap (λ (m : ℕ). NoneYet m ∷ []) its_id);
+        leads = nones_lead number id [] seats s owes;
+        handled = subst (λ (t : State). IsHandled number y.moving (paid t)) none_over
+            (end_handled number i x y seat (ReadOf id) s stands ready sound may.here may.still may.settled hears.roused hears.rouses may.looks seat s same_steps stands.desk.may
+            (record { id = refl; stage = refl; reply = refl; closing = refl }) refl next (next_as seat (found.2.seats ∙ set_at (heard_at (Some (Ok NotYet)) read.front))) hears.hears.2 hears.numbers hears.rest hears.one.links hears.one.top bounded);
+      };
     };
+    ready = subst (λ (t : State). StaysReady number x y (paid t)) none_over
+        (end_ready number i x y seat (ReadOf id) s stands ready sound may.here may.still may.settled hears.roused hears.rouses may.looks seat s same_steps stands.desk.may
+        (record { id = refl; stage = refl; reply = refl; closing = refl }) refl next (next_as seat (found.2.seats ∙ set_at (heard_at (Some (Ok NotYet)) read.front))) hears.hears.2 hears.numbers hears.rest hears.one.links hears.one.top bounded (left_as seat));
   }
 
-  by_found : (found : Found) → is_some found ≡ true → found_as found → HasLed number x y s
+  by_found : (found : Found) → is_some found ≡ true → found_as found → HasLedReady number x y s
   by_found None none found = absurd (cc none)
   by_found (Some (Ok (Came n))) some found = came n found
   by_found (Some (Ok End)) some found = ended found
   by_found (Some (Ok NotYet)) some found = nothing found
   by_found (Some (Err fault)) some found = failed fault found
 
-  lead : HasLed number x y s
+  lead : HasLedReady number x y s
   lead = by_found read.found called (read.told, read.within, read.is)
 
 pub hearings_lead : HearingsLead

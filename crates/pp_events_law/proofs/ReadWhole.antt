@@ -23,10 +23,12 @@ use Rattle.pp_world.specs.declared.event.Event.TheVariants.{Readable}
 use Rattle.pp_world.specs.declared.happening.Happening.TheVariants.{CanRead}
 use Rattle.pp_events_law.proofs.Alike.{AreAlike, IsAlike, WasAlike}
 use Rattle.pp_events_law.proofs.Hears.{hearings_lead}
+use Rattle.pp_events_law.proofs.ReadyBehind.{given_on}
 use Rattle.pp_events_law.proofs.Woken.{client_reads, woken_alike}
 use Rattle.pp_events_law.specs.Hears.{MayHear}
 use Rattle.pp_events_law.specs.Readable.{ClientReadsLead}
-use Rattle.pp_events_law.specs.Stands.{AreReadyAt, HasLed, HasLedBehind, StandsAtEvent, come}
+use Rattle.pp_events_law.specs.Ready.{HasLedReady, HasLedReadyBehind}
+use Rattle.pp_events_law.specs.Stands.{AreReadyAt, StandsAtEvent, come}
 use Rattle.pp_events_law.specs.Woken.{IsOwed}
 
 -- ---- nothing that is settled changes
@@ -96,11 +98,14 @@ module _ (number : ℕ → ℕ) (id i : ℕ) (x y : Turning) (seat : Seat) (s : 
     settled = λ j other here. let one : WasAlike old.state.seats.items j other = alike.was j other here in settled_as one.old other one.is (may.settled j one.old one.here);
   }
 
-  heard : HasLed number next y v
+  heard : HasLedReady number next y v
   heard = hearings_lead number id i next y its.seat v owed.stands owed.ready sound may_now bounded hears
 
-  read_whole : HasLedBehind number (CanRead id) x y s
-  read_whole = record { log = heard.log; then = heard.then; told = heard.handled.told; leads = lead_joined (CanRead id ∷ []) heard.log s v heard.then owed.leads heard.handled.leads; handled = heard.handled.handled }
+  read_whole : HasLedReadyBehind number (CanRead id) x y s
+  read_whole = record {
+    led = record { log = heard.led.log; then = heard.led.then; told = heard.led.handled.told; leads = lead_joined (CanRead id ∷ []) heard.led.log s v heard.led.then owed.leads heard.led.handled.leads; handled = heard.led.handled.handled };
+    ready = λ given. heard.ready (given_on x next y alike given);
+  }
 
 pub reads_whole : ClientReadsLead
 reads_whole number id i x y seat s stands ready sound may bounded reads = read_whole number id i x y seat s stands ready sound may bounded reads

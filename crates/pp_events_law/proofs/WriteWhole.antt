@@ -31,10 +31,12 @@ use Rattle.pp_events_law.proofs.Anew.{anew_if}
 use Rattle.pp_events_law.proofs.Asked.{line_of_next, next_by_law}
 use Rattle.pp_events_law.proofs.Asks.{askings}
 use Rattle.pp_events_law.proofs.ReadWhole.{settled_as}
+use Rattle.pp_events_law.proofs.ReadyBehind.{given_on}
 use Rattle.pp_events_law.proofs.Touched.{no_seat}
 use Rattle.pp_events_law.proofs.Woken.{origin_writes, woken_alike}
 use Rattle.pp_events_law.specs.Asks.{MayAsk}
-use Rattle.pp_events_law.specs.Stands.{AreReadyAt, HasLed, HasLedBehind, StandsAtEvent, come}
+use Rattle.pp_events_law.specs.Ready.{HasLedReady, HasLedReadyBehind}
+use Rattle.pp_events_law.specs.Stands.{AreReadyAt, StandsAtEvent, come}
 use Rattle.pp_events_law.specs.Woken.{IsOwed}
 use Rattle.pp_events_law.specs.Writable.{MayBeAsked, OriginWritesLead}
 
@@ -163,11 +165,14 @@ module _ (terms : List Term) (log : Log) (number : ℕ → ℕ) (k : ℕ) (x y :
     settled = λ i other here. let one : WasAlike old.state.seats.items i other = alike.was i other here in settled_as one.old other one.is (may.settled i one.old one.here);
   }
 
-  asked : HasLed number next y v
+  asked : HasLedReady number next y v
   asked = askings terms (log ++ CanWrite k ∷ []) number k next y v (marked_conn s.clock j) e obeys_now owed.stands owed.ready may_now bounded asks
 
-  write_whole : HasLedBehind number (CanWrite k) x y s
-  write_whole = record { log = asked.log; then = asked.then; told = asked.handled.told; leads = lead_joined (CanWrite k ∷ []) asked.log s v asked.then owed.leads asked.handled.leads; handled = asked.handled.handled }
+  write_whole : HasLedReadyBehind number (CanWrite k) x y s
+  write_whole = record {
+    led = record { log = asked.led.log; then = asked.led.then; told = asked.led.handled.told; leads = lead_joined (CanWrite k ∷ []) asked.led.log s v asked.led.then owed.leads asked.led.handled.leads; handled = asked.led.handled.handled };
+    ready = λ given. asked.ready (given_on x next y alike given);
+  }
 
 pub writes_whole : OriginWritesLead
 writes_whole terms log number k x y s j e obeys stands ready may bounded writes = write_whole terms log number k x y s j e obeys stands ready may bounded writes

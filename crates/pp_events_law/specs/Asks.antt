@@ -19,7 +19,8 @@ use Rattle.pp_proxy.specs.Moving.{Turning}
 use Rattle.pp_text.specs.Bytes.{is_empty}
 use Rattle.pp_world.specs.Log.{Log}
 use Rattle.pp_events_law.specs.Hears.{AreSettled}
-use Rattle.pp_events_law.specs.Stands.{AreReadyAt, HasLed, StandsAtEvent}
+use Rattle.pp_events_law.specs.Ready.{HasLedReady}
+use Rattle.pp_events_law.specs.Stands.{AreReadyAt, StandsAtEvent}
 
 pub record MayAsk (k : ℕ) (x : Turning) (s : State) (j : Conn) (e : Exchange) : Type 0 where
   pub there : conn s k ≡ Some j
@@ -35,4 +36,4 @@ pub record MayAsk (k : ℕ) (x : Turning) (s : State) (j : Conn) (e : Exchange) 
 
 -- from where the write is owed
 abbrev pub AskingsLead : Type 0
-AskingsLead = (terms : List Term) (log : Log) (number : ℕ → ℕ) (k : ℕ) (x y : Turning) (s : State) (j : Conn) (e : Exchange) → Obeys terms s log → StandsAtEvent number Handling (WriteTo k) x.moving s → AreReadyAt number x.moving s → MayAsk k x s j e → IsBounded y.moving.desk.state.cache → AsksOn k x y → HasLed number x y s
+AskingsLead = (terms : List Term) (log : Log) (number : ℕ → ℕ) (k : ℕ) (x y : Turning) (s : State) (j : Conn) (e : Exchange) → Obeys terms s log → StandsAtEvent number Handling (WriteTo k) x.moving s → AreReadyAt number x.moving s → MayAsk k x s j e → IsBounded y.moving.desk.state.cache → AsksOn k x y → HasLedReady number x y s

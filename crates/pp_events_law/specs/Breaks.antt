@@ -18,6 +18,7 @@ use Rattle.pp_world.specs.Log.{Log}
 use Rattle.pp_world.specs.declared.event.Event.TheVariants.{Broken}
 use Rattle.pp_world.specs.declared.happening.Happening.TheVariants.{Broke}
 use Rattle.pp_events_law.specs.Hears.{AreSettled}
+use Rattle.pp_events_law.specs.Ready.{StaysReady}
 use Rattle.pp_events_law.specs.Silent.{IsSilentlyHandled}
 use Rattle.pp_events_law.specs.Stands.{AreReadyAt, StandsAtEvent, come}
 
@@ -29,4 +30,4 @@ pub record MayBreak (k : ℕ) (x : Turning) (s : State) (j : Conn) : Type 0 wher
 
 abbrev pub BreaksLead : Type 0
 BreaksLead = (terms : List Term) (log : Log) (number : ℕ → ℕ) (k : ℕ) (x y : Turning) (s : State) (j : Conn) → Obeys terms s log → StandsAtEvent number Awaiting Free x.moving s → AreReadyAt number x.moving s → MayBreak k x s j → IsBounded y.moving.desk.state.cache
-    → Handles (Broken k) (come (Broken k) x) y → IsSilentlyHandled number (Broke k) y s (paid (gone false k (event s)))
+    → Handles (Broken k) (come (Broken k) x) y → IsSilentlyHandled number (Broke k) y s (paid (gone false k (event s))) × StaysReady number x y (paid (gone false k (event s)))

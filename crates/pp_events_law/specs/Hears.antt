@@ -15,7 +15,8 @@ use Rattle.pp_proxy.specs.Handling.{HearsAt}
 use Rattle.pp_proxy.specs.Moving.{Turning}
 use Rattle.pp_seats.specs.declared.seat.Seat.{Seat}
 use Rattle.pp_state.specs.Ends.{numbers_of, place_of}
-use Rattle.pp_events_law.specs.Stands.{AreReadyAt, HasLed, StandsAtEvent}
+use Rattle.pp_events_law.specs.Ready.{HasLedReady}
+use Rattle.pp_events_law.specs.Stands.{AreReadyAt, StandsAtEvent}
 
 -- no reply is over, and of nobody all is answered
 abbrev pub AreSettled : List Seat → Type 0
@@ -39,4 +40,4 @@ pub record MayHear (id i : ℕ) (x : Turning) (seat : Seat) : Type 0 where
 
 -- from where the read is owed
 abbrev pub HearingsLead : Type 0
-HearingsLead = (number : ℕ → ℕ) (id i : ℕ) (x y : Turning) (seat : Seat) (s : State) → StandsAtEvent number Handling (ReadOf id) x.moving s → AreReadyAt number x.moving s → IsSoundTurn s → MayHear id i x seat → IsBounded y.moving.desk.state.cache → HearsAt i x y → HasLed number x y s
+HearingsLead = (number : ℕ → ℕ) (id i : ℕ) (x y : Turning) (seat : Seat) (s : State) → StandsAtEvent number Handling (ReadOf id) x.moving s → AreReadyAt number x.moving s → IsSoundTurn s → MayHear id i x seat → IsBounded y.moving.desk.state.cache → HearsAt i x y → HasLedReady number x y s

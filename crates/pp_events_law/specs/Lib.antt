@@ -3,6 +3,9 @@ pub mod Asks
 pub mod Breaks
 pub mod Hears
 pub mod Readable
+pub mod Ready
+pub mod Sayable
+pub mod Says
 pub mod Silent
 pub mod Stands
 pub mod Woken

@@ -12,8 +12,9 @@ use Rattle.pp_seats.specs.declared.seat.Seat.{Seat}
 use Rattle.pp_world.specs.declared.event.Event.TheVariants.{Readable}
 use Rattle.pp_world.specs.declared.happening.Happening.TheVariants.{CanRead}
 use Rattle.pp_events_law.specs.Hears.{MayHear}
-use Rattle.pp_events_law.specs.Stands.{AreReadyAt, HasLedBehind, StandsAtEvent, come}
+use Rattle.pp_events_law.specs.Ready.{HasLedReadyBehind}
+use Rattle.pp_events_law.specs.Stands.{AreReadyAt, StandsAtEvent, come}
 
 abbrev pub ClientReadsLead : Type 0
 ClientReadsLead = (number : ℕ → ℕ) (id i : ℕ) (x y : Turning) (seat : Seat) (s : State) → StandsAtEvent number Awaiting Free x.moving s → AreReadyAt number x.moving s → IsSoundTurn (event (owing (ReadOf id) id s)) → MayHear id i x seat → IsBounded y.moving.desk.state.cache
-    → Handles (Readable id) (come (Readable id) x) y → HasLedBehind number (CanRead id) x y s
+    → Handles (Readable id) (come (Readable id) x) y → HasLedReadyBehind number (CanRead id) x y s

@@ -48,7 +48,7 @@ pub record AreOpen (x : Moving) (known : ℕ) : Type 0 where
 pub record StandsAtEvent (number : ℕ → ℕ) (phase : Phase) (owed : Owed) (x : Moving) (s : State) : Type 0 where
   pub law : IsAt phase owed s
   -- from step to step. Of its `may` IsSoundTurn has all but that more of a response that is passed is to come, as long as its exchange is
-  -- there: no source yet
+  -- there: IsToldOn of `pp_laws_coming`, `told`, has that (`coming`)
   pub desk : ShowsDesk number x.desk s
   -- from a tick to the next
   pub ticked : x.desk.state.has_ticked ≡ s.has_ticked

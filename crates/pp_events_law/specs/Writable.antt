@@ -17,7 +17,8 @@ use Rattle.pp_world.specs.Log.{Log}
 use Rattle.pp_world.specs.declared.event.Event.TheVariants.{Writable}
 use Rattle.pp_world.specs.declared.happening.Happening.TheVariants.{CanWrite}
 use Rattle.pp_events_law.specs.Hears.{AreSettled}
-use Rattle.pp_events_law.specs.Stands.{AreReadyAt, HasLedBehind, StandsAtEvent, come}
+use Rattle.pp_events_law.specs.Ready.{HasLedReadyBehind}
+use Rattle.pp_events_law.specs.Stands.{AreReadyAt, StandsAtEvent, come}
 
 pub record MayBeAsked (k : ℕ) (x : Turning) (s : State) (j : Conn) (e : Exchange) : Type 0 where
   pub there : conn s k ≡ Some j
@@ -32,4 +33,4 @@ pub record MayBeAsked (k : ℕ) (x : Turning) (s : State) (j : Conn) (e : Exchan
 
 abbrev pub OriginWritesLead : Type 0
 OriginWritesLead = (terms : List Term) (log : Log) (number : ℕ → ℕ) (k : ℕ) (x y : Turning) (s : State) (j : Conn) (e : Exchange) → Obeys terms s log → StandsAtEvent number Awaiting Free x.moving s → AreReadyAt number x.moving s → MayBeAsked k x s j e → IsBounded y.moving.desk.state.cache
-    → Handles (Writable k) (come (Writable k) x) y → HasLedBehind number (CanWrite k) x y s
+    → Handles (Writable k) (come (Writable k) x) y → HasLedReadyBehind number (CanWrite k) x y s

@@ -5,10 +5,14 @@
 //! connection that was reached, and the clock; `specs/Breaks.antt` has a connection that breaks. `specs/Woken.antt` says how a read or a
 //! write comes to be owed; `specs/Hears.antt` has the read of a client and `specs/Asks.antt` the write to an origin, from there on, and
 //! `specs/Readable.antt` and `specs/Writable.antt` the same from the wait on. Behind each attempts count anew (`specs/Anew.antt`), and the
-//! turn stands at the law's state, from which it leaves the event.
+//! turn stands at the law's state, from which it leaves the event. Behind each, too, each client that goes on can be decided: behind a read,
+//! a write or a break as long as memory was given for the key of each head that was read (`specs/Ready.antt`).
 //!
-//! Not said: a write to a client, and a read of an origin; a client that comes for which there is no memory; and behind a read, a write or
-//! a break, that each client that goes on can be decided, but for that what it follows is there.
+//! `specs/Says.antt` has the write to a client for whom nothing has to be read back before: some of its reply is said, and the chunks of what
+//! was said are the ones used last; or the write fails, and the client is lost. `specs/Sayable.antt` has the same from the wait on.
+//!
+//! Not said: what ends behind the last bytes of a reply, of which all that happened is told; the read of a chunk from the disk before a
+//! write; a read of an origin; and a client that comes for which there is no memory.
 //!
 //! To the layer above: each is the clause of a function that does nothing. It is one part of the proof that the program
 //! obeys the law: nothing is said here of a turn in which memory was refused for a row. The words of the program stand in `pp_proxy`,
@@ -22,6 +26,7 @@ mod behind; // attempts count anew
 mod breaking; // a connection to an origin breaks
 mod owing; // a read or a write is owed
 mod reading; // a client is read
+mod saying; // a client is written to
 mod silent; // events that add nothing to the log
 
 pub use asking::origins_are_asked_as_by_the_law;
@@ -29,6 +34,7 @@ pub use behind::attempts_count_behind_events_as_by_the_law;
 pub use breaking::connections_break_as_by_the_law;
 pub use owing::{clients_are_owed_as_by_the_law, origins_are_owed_as_by_the_law};
 pub use reading::clients_are_heard_as_by_the_law;
+pub use saying::writes_to_clients_lead_as_by_the_law;
 pub use silent::{
     clients_come_as_by_the_law, connections_are_reached_as_by_the_law, seconds_begin_as_by_the_law,
     stops_lead_as_by_the_law,

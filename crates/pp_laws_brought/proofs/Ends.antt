@@ -1,9 +1,8 @@
 -- The ends of responses and of connections keep what is still to come.
-use Rattle.std.proofs.Common.{◌≡◌, refl, ℕ, Bool, true, false, ◌==◌, ◌&&◌, List, length, Option, Some, None, sym, subst, ap, ◌∙◌}
+use Rattle.std.proofs.Common.{◌≡◌, refl, ℕ, Bool, true, false, ◌==◌, ◌&&◌, Some, None, sym, subst, ap, ◌∙◌}
 use Rattle.pp_head.specs.Response.{Response}
 use Rattle.pp_pass.specs.Pipe.{Pipe, finished}
-use Rattle.pp_law.specs.Connections.{conn, is_conn, front_of_line, on_conn, end_exchange, close_conn}
-use Rattle.pp_law.specs.Lists.{change}
+use Rattle.pp_law.specs.Connections.{conn, is_conn, front_of_line, on_conn, end_exchange}
 use Rattle.pp_law.specs.Passing.{pour}
 use Rattle.pp_law.specs.Responses.{skipping, skip_body, rested, close_this, may_go_on, finish, bad_response, bad_head, is_whole_at_end, finish_first, ended}
 use Rattle.pp_law.specs.Stages.{bound_of, on_passed}

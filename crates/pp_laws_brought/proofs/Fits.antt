@@ -1,9 +1,8 @@
 -- What a response may bring fits what is to come of it, from its head on.
-use Rattle.std.proofs.Common.{◌≡◌, refl, ℕ, zero, suc, ◌+◌, ◌-◌, ◌≤◌, ◌^◌, nat_le, Bool, true, false, ◌==◌, ◌&&◌, List, [], ◌++◌, drop, length, Option, Some, None, Ok, option_and_then, if◌then◌else◌, sym, subst, ap, ◌∙◌, append_assoc, length-drop, le_trans, le_refl, zero-le, arith}
+use Rattle.std.proofs.Common.{◌≡◌, refl, ℕ, ◌+◌, ◌-◌, ◌≤◌, ◌^◌, nat_le, Bool, true, false, ◌&&◌, List, [], ◌++◌, drop, length, Option, Some, None, Ok, option_and_then, if◌then◌else◌, sym, subst, append_assoc, length-drop, le_trans, zero-le, arith}
 use Rattle.std.proofs.lemmas.Bool.Decides.{nat_tests}
 use Rattle.pp_framing.specs.Framing.{rule_of}
 use Rattle.pp_framing.specs.Rules.{body_of}
-use Rattle.pp_framing.specs.declared.body.BodyRule.TheVariants.{Empty}
 use Rattle.pp_framing.specs.declared.body.BodyRule.{BodyRule}
 use Rattle.pp_head.specs.Response.{Response}
 use Rattle.pp_text.specs.Fields.{Field}
@@ -13,7 +12,6 @@ use Rattle.pp_valid.specs.TagStates.{tag_of}
 use Rattle.pp_valid.specs.Versions.{can_keep, can_share, is_telling, strong_part, total_of, version_of, version_with}
 use Rattle.pp_valid.specs.declared.version.Version.{Version}
 use Rattle.pp_law.specs.Lists.{Bytes}
-use Rattle.pp_law.specs.OwnHeads.{end_in, first_offset, range_in, version_in}
 use Rattle.pp_law.specs.Responses.{answer_with, asks_head, payload_of}
 use Rattle.pp_law.specs.Stages.{is_through}
 use Rattle.pp_law.specs.State.{Answer, Exchange}

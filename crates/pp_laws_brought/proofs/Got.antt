@@ -1,5 +1,5 @@
 -- What one read of an origin brings keeps what is still to come.
-use Rattle.std.proofs.Common.{◌≡◌, refl, ℕ, zero, suc, ◌+◌, Bool, true, false, ◌==◌, ◌||◌, List, [], ◌∷◌, ◌++◌, drop, length, Option, Some, None, Result, Ok, Err, sym, subst, ap, ◌∙◌}
+use Rattle.std.proofs.Common.{◌≡◌, refl, ℕ, zero, suc, ◌+◌, Bool, true, false, ◌==◌, ◌||◌, [], ◌++◌, drop, length, Option, Some, None, Result, Ok, Err, sym, subst, ap, ◌∙◌}
 use Rattle.pp_framing.specs.Body.{Outcome, Done, Going, Bad}
 use Rattle.pp_framing.specs.Framing.{rule_of}
 use Rattle.pp_framing.specs.Rules.{body_of}
@@ -10,7 +10,7 @@ use Rattle.pp_head.specs.Response.{Response, response_at}
 use Rattle.pp_pipe.specs.Front.{is_interim}
 use Rattle.pp_text.specs.Bytes.{is_empty}
 use Rattle.pp_law.specs.Connections.{conn, is_conn, is_exchange, front_of_line, on_conn, on_exchange, close_conn}
-use Rattle.pp_law.specs.Lists.{Bytes, change}
+use Rattle.pp_law.specs.Lists.{Bytes}
 use Rattle.pp_law.specs.OwnHeads.{first_offset, is_wrong_head, join, join_bound, moved_on, note_own, note_sent, sent_as}
 use Rattle.pp_law.specs.Passing.{poured}
 use Rattle.pp_law.specs.Responses.{Piece, answer_for, answer_with, answered_by, asks_head, bad_head, bad_response, begin_answer, body_piece, body_piece_of, deliver, end_if_empty, finish, got, head_came, head_piece, is_early, next_piece, payload_of, with_unread}
@@ -30,10 +30,10 @@ use Rattle.pp_laws.proofs.Heads.{bring_row-sound}
 use Rattle.pp_laws_brought.proofs.Asks.{as_lined, close_conn-keeps, on_conn-keeps}
 use Rattle.pp_laws_brought.proofs.Cases.{by_aim_of, by_outcome, each_of, each_so, when}
 use Rattle.pp_laws_brought.proofs.Ends.{back_answered, back_gone, back_there, bad_head-keeps, bad_response-keeps, finish-back, pour-keeps}
-use Rattle.pp_laws_brought.proofs.Fits.{added, added_fits, behind, fits_behind, starts_of}
-use Rattle.pp_laws_brought.proofs.Heads.{Starts, bring_row-keeps, by_aim-keeps}
+use Rattle.pp_laws_brought.proofs.Fits.{added, behind, fits_behind, starts_of}
+use Rattle.pp_laws_brought.proofs.Heads.{bring_row-keeps, by_aim-keeps}
 use Rattle.pp_laws_brought.proofs.Rows.{note_use-keeps}
-use Rattle.pp_laws_brought.proofs.View.{Apart, Away, Facts, Fits, Holds, IsSpan, facts_of, holds, lines_of}
+use Rattle.pp_laws_brought.proofs.View.{Apart, Away, Fits, Holds, IsSpan, facts_of, holds, lines_of}
 
 -- ---- one is looked at apart
 

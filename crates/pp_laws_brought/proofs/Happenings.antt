@@ -1,5 +1,5 @@
 -- Each happening keeps what is still to come.
-use Rattle.std.proofs.Common.{◌-◌, ◌++◌, ◌≡◌, refl, ℕ, Bool, true, false, not, ◌&&◌, List, [], ◌∷◌, filter_map, take, length, bytes_eq, Option, Some, None, option_and_then, inl, inr, sym, subst, ap, ◌∙◌}
+use Rattle.std.proofs.Common.{◌-◌, ◌++◌, ◌≡◌, refl, ℕ, Bool, true, false, not, ◌&&◌, [], ◌∷◌, length, Option, Some, None}
 use Rattle.pp_ask.specs.declared.kind.AskKind.{AskKind}
 use Rattle.pp_conf.specs.Conf.{Settings}
 use Rattle.pp_conf.specs.Words.{reading_of}
@@ -16,7 +16,7 @@ use Rattle.pp_world.specs.declared.op.DiskOp.{DiskOp}
 use Rattle.pp_law.specs.After.{brings_to, dropping_body, new_conn, begun_op, changed, dialled, dropped, ended_op, event, evicted, forgotten_by, gone, leave_memory, noted, opened, out, owing, paid, reached, refused_dial, refused_row, said, shut, take_decision, undialled, unread}
 use Rattle.pp_law.specs.Asking.{ask, ask_body, ask_next, asked_body, asked_text, asking, hang_up, hear, is_writing}
 use Rattle.pp_law.specs.Closing.{is_of}
-use Rattle.pp_law.specs.Connections.{Pause, AllPlaced, WaitsDial, WaitsDrop, is_conn, put_on, client, conn, is_outstanding, may_ask_again, on_client_of, on_exchange, placing}
+use Rattle.pp_law.specs.Connections.{Pause, AllPlaced, WaitsDial, WaitsDrop, is_conn, put_on, client, conn, is_outstanding, may_ask_again, on_exchange, placing}
 use Rattle.pp_law.specs.Deciding.{ask_as, ask_for, ask_origin, asking_with, decided, decided_by, follow, follow_row, follow_with, new_exchange, refuse, refused_with, relay}
 use Rattle.pp_law.specs.Decisions.{kind_of}
 use Rattle.pp_law.specs.Leaving.{Leaving, ForAnother, ForMemory, BeforeDecision, leaving_as}
@@ -25,9 +25,8 @@ use Rattle.pp_law.specs.Opening.{are_texts, begun, is_opening, names_file, setti
 use Rattle.pp_law.specs.Phases.{due_victim, ending}
 use Rattle.pp_law.specs.Replies.{begin_replies, close_finished, end_replies, end_reply, end_said, is_outrun, is_said, next_request, said_by}
 use Rattle.pp_law.specs.Requests.{key_in}
-use Rattle.pp_law.specs.State.{State, Client, Conn, Exchange, Instance, IsListed, IsListening, IsRooted, IsWoken, Evicting, Keeping, Connecting, DecidingAgain, ReadOf, WriteTo, Owed}
+use Rattle.pp_law.specs.State.{State, Client, Exchange, Instance, IsListed, IsListening, IsRooted, IsWoken, Evicting, Keeping, Connecting, DecidingAgain, ReadOf, WriteTo, Owed}
 use Rattle.pp_law.specs.Table.{forget, row, row_for}
-use Rattle.pp_laws.specs.Runs.{IsIn}
 use Rattle.pp_laws.proofs.Places.{IsReady, placing-dial}
 use Rattle.pp_laws.proofs.Sound.{Since, Sound}
 use Rattle.pp_laws.proofs.Steps.{come_to-sound}
@@ -38,7 +37,7 @@ use Rattle.pp_laws_brought.proofs.Got.{got-keeps}
 use Rattle.pp_laws_brought.proofs.Rows.{drop_chunk-keeps, forget-keeps, swept-keeps}
 use Rattle.pp_laws_brought.proofs.Store.{begin_in_opening-keeps, begin_in_turn-keeps, close_name-keeps, configured-keeps, end_op-keeps, load-keeps, lose_in_opening-keeps, note_gone-keeps, note_kept-keeps, opened_to-keeps}
 use Rattle.pp_laws_brought.proofs.Turns.{close_finished-keeps, come_to-keeps, come_to_decide-keeps, deciding-keeps, enter_row-keeps, in_phase-keeps, regained-keeps, rest_with-keeps, tick-keeps, touch-keeps, use_said-keeps}
-use Rattle.pp_laws_brought.proofs.View.{Apart, Holds, asks_mapped, conn_pushed, conns_filtered, facts_of, holds, plain}
+use Rattle.pp_laws_brought.proofs.View.{Apart, Holds, conn_pushed, conns_filtered, facts_of, holds, plain}
 
 -- ---- events
 

@@ -1,5 +1,5 @@
 -- What the head of a response does keeps what is still to come.
-use Rattle.std.proofs.Common.{◌≡◌, ℕ, Bool, true, false, ◌==◌, ◌&&◌, List, [], ◌∷◌, Option, Some, None, sym, subst, ap, ◌∙◌, refl}
+use Rattle.std.proofs.Common.{◌≡◌, Bool, true, false, ◌==◌, ◌&&◌, List, [], ◌∷◌, Some, None, sym, subst, ap, ◌∙◌, refl}
 use Rattle.std.specs.List.{list_any}
 use Rattle.pp_framing.specs.declared.body.BodyRule.{BodyRule}
 use Rattle.pp_fresh.specs.declared.aging.Times.{Times}
@@ -21,7 +21,7 @@ use Rattle.pp_laws.proofs.Tests.{same_number}
 use Rattle.pp_laws_brought.proofs.Asks.{lose_attempt-keeps, on_client_of-keeps, on_exchange-keeps}
 use Rattle.pp_laws_brought.proofs.Cases.{each_of, each_so, when, when_so}
 use Rattle.pp_laws_brought.proofs.Rows.{clear-keeps, enter-keeps, make_row-keeps, mark_row-keeps, on_instance-keeps}
-use Rattle.pp_laws_brought.proofs.View.{Apart, Away, Facts, Fits, Holds, IsSpan, facts_of, holds}
+use Rattle.pp_laws_brought.proofs.View.{Apart, Away, Fits, Holds, IsSpan, facts_of, holds}
 
 -- what a head may bind its exchange to
 pub record Starts (e : Exchange) (head : Response) (a : Answer) : Type 0 where

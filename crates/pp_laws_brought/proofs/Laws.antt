@@ -1,10 +1,9 @@
 -- The law: no more comes than is still to come, which is 2^30 bytes at most.
-use Rattle.std.proofs.Common.{◌≡◌, refl, ℕ, ◌+◌, ◌/◌, ◌≤◌, ◌<◌, ◌^◌, false, List, [], ◌++◌, length, None, sym, subst, div-le_self, arith}
+use Rattle.std.proofs.Common.{refl, ℕ, ◌/◌, ◌≤◌, ◌<◌, ◌^◌, false, List, [], None, sym, subst, div-le_self, arith}
 use Rattle.std.proofs.lemmas.List.{append-nil}
 use Rattle.pp_world.specs.Log.{Log}
-use Rattle.pp_law.specs.After.{after}
 use Rattle.pp_law.specs.Lawful.{Lawful}
-use Rattle.pp_law.specs.State.{State, Term, start}
+use Rattle.pp_law.specs.State.{State, Term}
 use Rattle.pp_laws.specs.Runs.{state_after}
 use Rattle.pp_laws.proofs.Happenings.{after-sound}
 use Rattle.pp_laws.proofs.Laws.{start-sound}

@@ -1,5 +1,5 @@
 -- What is done to the store, and in the opening, keeps what is still to come.
-use Rattle.std.proofs.Common.{ℕ, Bool, true, false, List, [], ◌∷◌, ◌++◌, find, Option, Some, None, refl}
+use Rattle.std.proofs.Common.{ℕ, Bool, true, false, List, [], ◌∷◌, ◌++◌, find, Option, Some, None}
 use Rattle.pp_conf.specs.Conf.{Settings}
 use Rattle.pp_conf.specs.Words.{reading_of}
 use Rattle.pp_world.specs.declared.op.DiskOp.{DiskOp}

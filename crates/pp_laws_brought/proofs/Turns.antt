@@ -16,7 +16,7 @@ use Rattle.pp_law.specs.Lists.{Bytes}
 use Rattle.pp_law.specs.Unseen.{furthest_at, wanted_to, rested_exchange, is_unseen, drop_on, drop_unseen}
 use Rattle.pp_target.specs.Key.{text_of}
 use Rattle.pp_world.specs.declared.note.Decision.{Decision}
-use Rattle.pp_laws_brought.proofs.Asks.{as_bound, as_lined, close_client-keeps, close_conn-keeps, each_conn-keeps, end_exchange-keeps, fail-keeps, fill-keeps, give_up_asks-keeps, on_client-keeps, on_conn-keeps, placing-keeps}
+use Rattle.pp_laws_brought.proofs.Asks.{as_lined, close_client-keeps, close_conn-keeps, each_conn-keeps, end_exchange-keeps, fail-keeps, fill-keeps, give_up_asks-keeps, on_client-keeps, on_conn-keeps, placing-keeps}
 use Rattle.pp_laws.proofs.Cases.{each_of as sound_each, when as sound_when}
 use Rattle.pp_laws.proofs.Clients.{fill-sound, give_up_asks-sound}
 use Rattle.pp_laws.proofs.Closings.{IsOwnLine, close_conn-sound, own_line, own_line_shrunk}

@@ -1,5 +1,5 @@
 -- What is kept of the exchanges whose bodies belong to an instance, and of the answers that are under way.
-use Rattle.std.proofs.Common.{◌≡◌, ◌⊎◌, refl, ℕ, ◌+◌, ◌≤◌, ◌^◌, Bool, true, false, List, [], ◌∷◌, ◌++◌, map, filter, length, Option, Some, None, inl, inr, sym, subst, ap, ◌∙◌}
+use Rattle.std.proofs.Common.{◌≡◌, ◌⊎◌, refl, ℕ, ◌+◌, ◌≤◌, ◌^◌, Bool, true, List, [], ◌∷◌, ◌++◌, map, filter, length, Option, Some, None, inl, inr, sym, subst, ap, ◌∙◌}
 use Rattle.pp_framing.specs.Rules.{body_of}
 use Rattle.pp_law.specs.Lists.{Bytes}
 use Rattle.pp_law.specs.Responses.{payload_of}
@@ -7,7 +7,7 @@ use Rattle.pp_law.specs.Stages.{bound_of}
 use Rattle.pp_law.specs.State.{State, Answer, Bound, Conn, Exchange}
 use Rattle.pp_laws.specs.Runs.{IsIn}
 use Rattle.pp_laws.proofs.Apart.{bound_by}
-use Rattle.pp_laws.proofs.Lists.{From, in_filter, in_map, in_push}
+use Rattle.pp_laws.proofs.Lists.{in_filter, in_map, in_push}
 
 -- ---- what holds
 

@@ -29,7 +29,7 @@ use Rattle.pp_world.specs.Log.{Log}
 -- ---- where the places begin
 
 pub record StandsToPlace (number : ℕ → ℕ) (p : Turn) (x : Around) (s : State) : Type 0 where
-  -- as `ShowsAround` of `pp_places_law` has it, from what stands amid a round (`StandsAmid` of `pp_rounds_law`)
+  -- as `ShowsAround` of `pp_places_law` has it, from what stands amid a round (Stands.`StandsAmid`)
   pub shows : ShowsAround number p x s
   -- what is placed is the turn's own: Around.`around` of `pp_places` has it so
   pub is : x.sides.parts ≡ parts p
@@ -39,7 +39,7 @@ pub record StandsToPlace (number : ℕ → ℕ) (p : Turn) (x : Around) (s : Sta
 
 -- ---- what has no source yet
 
--- what followers rest on as they ask behind a loss (`MayAskMore` of `pp_rounds_law` has the same of those that ask before)
+-- what followers rest on as they ask behind a loss (Supplies.`MayAskMore` has the same of those that ask before)
 pub record MayAskBehind (awake : List ℕ) (q : Parts) (s : State) : Type 0 where
   -- what follows a row has a key, and memory was refused for no row: no source yet
   pub wants : (i : ℕ) (seat : Seat) (c : Client) (x : SeatNext) → IsAtPlace i q s seat c → c.is_closing ≡ false → next_in_turn seat ≡ Some x → MayWant seat c
