@@ -53,21 +53,21 @@ none_more End Step goes x = refl
 pub ends_late : (End : Bool → Keeping → Keeping) (Step : Keeping → Keeping → Bool → Type 0) (n i : ℕ) (x mid : Keeping) (goes : Bool) → n ≤ i → AreSoFar End Step n i x mid goes → RepeatsTo End Step n true x (End goes mid)
 ends_late End Step n i x mid goes all so = so.on (End goes mid) (subst (λ (k : ℕ). RepeatsTo End Step k goes mid (End goes mid)) (sym (none_left n i all)) (none_more End Step goes mid))
 
+or_true : (b : Bool) → (b || true) ≡ true
+or_true true = refl
+or_true false = refl
+
+or_false : (b : Bool) → (b || false) ≡ b
+or_false true = refl
+or_false false = refl
+
 -- and then this life may have gone astray
-astray_so : (astray goes : Bool) (s : State) → s.is_astray ≡ astray → gone_astray_where goes s ≡ record s { is_astray = astray || goes }
-astray_so astray true s is = ap (λ (b : Bool). record s { is_astray = b }) (sym (or_true astray))
-  where
-    or_true : (b : Bool) → (b || true) ≡ true
-    or_true true = refl
-    or_true false = refl
-astray_so astray false s is = ap (λ (b : Bool). record s { is_astray = b }) (is ∙ sym (or_false astray))
-  where
-    or_false : (b : Bool) → (b || false) ≡ b
-    or_false true = refl
-    or_false false = refl
+astray_so : (goes : Bool) (s : State) → gone_astray_where goes s ≡ record s { is_astray = s.is_astray || goes }
+astray_so true s = ap (λ (b : Bool). record s { is_astray = b }) (sym (or_true s.is_astray))
+astray_so false s = ap (λ (b : Bool). record s { is_astray = b }) (sym (or_false s.is_astray))
 
 pub ends_noted : (goes : Bool) (x : Keeping) → ends_astray goes x ≡ record x { state = record x.state { is_astray = x.state.is_astray || goes } }
-ends_noted goes x = ap (λ (s : State). record x { state = s }) (astray_so x.state.is_astray goes x.state refl)
+ends_noted goes x = ap (λ (s : State). record x { state = s }) (astray_so goes x.state)
 
 -- ---- the last of a list is forgotten
 

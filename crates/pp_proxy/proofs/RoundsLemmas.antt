@@ -1,5 +1,5 @@
 -- Rounds, one behind the other, as long as one decided anything.
-use Rattle.std.proofs.Common.{◌≡◌, ◌<◌, ◌≤◌, ◌-◌, ◌+◌, ℕ, zero, suc, Bool, true, false, [], ◌++◌, Option, ◌||◌, append_assoc, refl, ap, ◌∙◌, sym, subst, arith}
+use Rattle.std.proofs.Common.{◌≡◌, ◌<◌, ◌≤◌, ◌-◌, ◌+◌, ℕ, zero, suc, Bool, true, false, [], ◌++◌, Option, ◌||◌, append_assoc, refl, ap, sym, subst, arith}
 use Rattle.std.specs.Prelude.{count_by}
 use Rattle.std.proofs.lemmas.List.{append-nil}
 use Rattle.pp_links.proofs.FailureLemmas.{counted_none, counted_then}
@@ -62,25 +62,25 @@ pub all_rounds : (i : ℕ) (shelf : KeptMap) (x mid : Moving) (any : Bool) (old 
 all_rounds i shelf x mid any old log before now none so =
     ends i shelf x mid mid any old log before now so (subst (λ (b : Bool). GoRounds (65536 - i) shelf b mid [] mid) (sym none) (rounds_over (65536 - i) shelf mid))
 
+or_true : (b : Bool) → (b || true) ≡ true
+or_true true = refl
+or_true false = refl
+
+or_false : (b : Bool) → (b || false) ≡ b
+or_false true = refl
+or_false false = refl
+
 -- where any was decided, this life goes astray
-astray_so : (astray any : Bool) (s : State) → s.is_astray ≡ astray → record s { is_astray = astray || any } ≡ gone_astray_where any s
-astray_so astray true s is = ap (λ (b : Bool). record s { is_astray = b }) (or_true astray)
-  where
-    or_true : (b : Bool) → (b || true) ≡ true
-    or_true true = refl
-    or_true false = refl
-astray_so astray false s is = ap (λ (b : Bool). record s { is_astray = b }) (or_false astray ∙ sym is)
-  where
-    or_false : (b : Bool) → (b || false) ≡ b
-    or_false true = refl
-    or_false false = refl
+astray_so : (any : Bool) (s : State) → record s { is_astray = s.is_astray || any } ≡ gone_astray_where any s
+astray_so true s = ap (λ (b : Bool). record s { is_astray = b }) (or_true s.is_astray)
+astray_so false s = ap (λ (b : Bool). record s { is_astray = b }) (or_false s.is_astray)
 
 abbrev more_left : Bool → Moving → Moving
 more_left any x = with_state (record x.desk.state { is_astray = x.desk.state.is_astray || any }) x
 
 none_more : (shelf : KeptMap) (any : Bool) (x : Moving) → GoRounds 0 shelf any x [] (more_left any x)
 unfolding GoRounds
-none_more shelf any x = (refl, ap (λ (s : State). with_state s x) (astray_so x.desk.state.is_astray any x.desk.state refl))
+none_more shelf any x = (refl, ap (λ (s : State). with_state s x) (astray_so any x.desk.state))
 
 -- or there were as many as may be
 pub most_rounds : (i : ℕ) (shelf : KeptMap) (x mid : Moving) (any : Bool) (old log : Option Log) (before now : ℕ) → 65536 ≤ i → AreRoundsSoFar i shelf x mid any old log before now
