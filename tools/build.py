@@ -154,7 +154,7 @@ def build(names):
         if is_taken.is_set() and progress.crates < len(names):
             progress.proved("polipo", 0)
     if (rt.wait() and not is_taken.is_set()) or not built.exists():
-        return told
+        return told or "rt ended without a word\n"
     PROGRAM.parent.mkdir(exist_ok=True)
     shutil.copy(built, PROGRAM)
     shutil.rmtree(ROOM, ignore_errors=True)
