@@ -22,6 +22,7 @@ use Rattle.pp_valid.specs.declared.version.Version.{Version}
 use Rattle.pp_world.specs.declared.access.Source.{Source}
 use Rattle.pp_world.specs.declared.access.Source.TheVariants.{Fetched, Checked}
 use Rattle.pp_state.specs.Accounts.{brought_by}
+use Rattle.pp_state.specs.Astray.{astray}
 use Rattle.pp_answers.specs.Answers.{not_shared}
 use Rattle.pp_state.specs.Ends.{Parts, all_decided_anew, bound_by, cleared_row, made_useless, told_to}
 use Rattle.pp_answers.specs.Heads.{ignores_range, is_full_answer, told_unchanged}
@@ -114,7 +115,7 @@ abbrev pub made_row : Exchange → Errand → Response → Version → ℕ → L
 made_row e errand head v clock key id p =
     settled_on e errand head v id (not_refused key (in_memory (λ m. with_outdated key (with_row id key v head.fields (times_for errand head clock) m)) p))
 
--- memory was refused for it: its request is refused
+-- memory was refused for it: its request is refused, and this life goes astray
 abbrev pub refusing_key : Option (List ℕ) → Parts → Parts
 refusing_key None p = p
 refusing_key (Some key) p = record p { refused = noted_by key p.refused }
@@ -123,7 +124,7 @@ abbrev pub refusing : ℕ → Parts → Parts
 refusing number p = refusing_key (key_of number p.flow) p
 
 abbrev pub refused_row : Exchange → Parts → Parts
-refused_row e p = told_to e Refused (bound_by e.number None (refusing e.number (cleared_row e.number p)))
+refused_row e p = astray (told_to e Refused (bound_by e.number None (refusing e.number (cleared_row e.number p))))
 
 -- its slot was free, and its life is the next
 abbrev pub IsNew : Option ObjectId → Memory → Type 0

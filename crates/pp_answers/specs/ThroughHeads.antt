@@ -12,6 +12,7 @@ use Rattle.pp_text.specs.Fields.{values_of}
 use Rattle.pp_valid.specs.Conditions.{names_other_tag}
 use Rattle.pp_valid.specs.Versions.{body_length}
 use Rattle.pp_valid.specs.declared.version.Version.{Version}
+use Rattle.pp_state.specs.Astray.{astray_where}
 use Rattle.pp_state.specs.Ends.{Parts, cleared_key, cleared_of, cleared_row, known_version, seat_for}
 use Rattle.pp_state.specs.Keys.{key_of}
 
@@ -41,9 +42,10 @@ abbrev pub named_as : Bool → List ℕ → List ℕ → Option (List ℕ)
 named_as true site text = key_named site text
 named_as false site text = some_if (is_spelled_at site text) text
 
+-- and then this life goes astray
 pub record ClearsNamed (site text : List ℕ) (old new : Parts) : Type 0 where
   pub is_read : Bool
-  pub cleared : new ≡ cleared_of (named_as is_read site text) old
+  pub cleared : new ≡ astray_where (not is_read) (cleared_of (named_as is_read site text) old)
 
 abbrev pub ClearsEach : List ℕ → List (List ℕ) → Parts → Parts → Type 0
 ClearsEach site [] old new = new ≡ old

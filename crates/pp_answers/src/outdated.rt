@@ -1,6 +1,6 @@
 // Rows that a passed response outdates: what an unsafe method changed, and what GET and HEAD show (RFC 2616,
 // sections 9.4 and 13.10).
-ghost use Rattle.std.specs.Prelude.{◌≡◌, false, take};
+ghost use Rattle.std.specs.Prelude.{◌≡◌, Bool, false, take};
 ghost use Rattle.pp_client.specs.Requests.{current_of};
 ghost use Rattle.pp_flow.specs.Changes.{Exchanges};
 ghost use Rattle.pp_head.specs.Shown.{shown_response};
@@ -57,6 +57,7 @@ fn clear_rows(state: &mut State, number: u64, path: usize, head: &ResponseHead<'
             state.alloc,
             &mut state.cache,
             &mut state.refused,
+            &mut state.is_astray,
             &mut state.seats,
             key,
             path,
@@ -118,20 +119,21 @@ fn clear_all(
     alloc: Global,
     cache: &mut Cache,
     refused: &mut Noted,
+    is_astray: &mut bool,
     seats: &mut [Seat],
     key: &[u8],
     path: usize,
     head: &ResponseHead<'_, '_>,
 )
-    ensures is { (flow : Exchanges) → ClearsEach (take path key.now) (places_named (shown_response head.now)) (cleared_key key.now (record { seats = seats.old; flow = flow; cache = cache.old; refused = refused.old })) (record { seats = seats.new; flow = flow; cache = cache.new; refused = refused.new }) }
+    ensures is { (flow : Exchanges) → ClearsEach (take path key.now) (places_named (shown_response head.now)) (cleared_key key.now (record { seats = seats.old; flow = flow; cache = cache.old; refused = refused.old; is_astray = is_astray.old })) (record { seats = seats.new; flow = flow; cache = cache.new; refused = refused.new; is_astray = is_astray.new }) }
     ensures numbers { numbers_of seats.new ≡ numbers_of seats.old }
 {
     clear_key(cache, refused, seats, key);
     let site = &key[..path.min(key.len())];
     let location = head.fields.values(b"location");
-    clear_places(alloc, cache, refused, seats, site, location);
+    clear_places(alloc, cache, refused, is_astray, seats, site, location);
     let content = head.fields.values(b"content-location");
-    clear_places(alloc, cache, refused, seats, site, content);
+    clear_places(alloc, cache, refused, is_astray, seats, site, content);
 }
 
 /// The rows of the places of a site that these texts name.
@@ -139,37 +141,42 @@ fn clear_places(
     alloc: Global,
     cache: &mut Cache,
     refused: &mut Noted,
+    is_astray: &mut bool,
     seats: &mut [Seat],
     site: &[u8],
     mut texts: FieldValues<'_, '_, '_>,
 )
-    ensures is { (flow : Exchanges) → ClearsEach site.now texts.entry (record { seats = seats.old; flow = flow; cache = cache.old; refused = refused.old }) (record { seats = seats.new; flow = flow; cache = cache.new; refused = refused.new }) }
+    ensures is { (flow : Exchanges) → ClearsEach site.now texts.entry (record { seats = seats.old; flow = flow; cache = cache.old; refused = refused.old; is_astray = is_astray.old }) (record { seats = seats.new; flow = flow; cache = cache.new; refused = refused.new; is_astray = is_astray.new }) }
     ensures numbers { numbers_of seats.new ≡ numbers_of seats.old }
 {
     while let Some(text) = texts.next() {
-        clear_place(alloc, cache, refused, seats, site, text);
+        clear_place(alloc, cache, refused, is_astray, seats, site, text);
     }
 }
 
 /// Ours: a URL that there is no memory to read counts as it is spelled, so that most rows are cleared all the same, and the
-/// response is passed.
+/// response is passed; but this life goes astray.
 #[tactic(auto, using(pp_state::proofs::SeatsLemmas::anew_numbers))]
 fn clear_place(
     alloc: Global,
     cache: &mut Cache,
     refused: &mut Noted,
+    is_astray: &mut bool,
     seats: &mut [Seat],
     site: &[u8],
     text: &[u8],
 )
-    ensures is { (flow : Exchanges) → ClearsNamed site.now text.now (record { seats = seats.old; flow = flow; cache = cache.old; refused = refused.old }) (record { seats = seats.new; flow = flow; cache = cache.new; refused = refused.new }) }
+    ensures is { (flow : Exchanges) → ClearsNamed site.now text.now (record { seats = seats.old; flow = flow; cache = cache.old; refused = refused.old; is_astray = is_astray.old }) (record { seats = seats.new; flow = flow; cache = cache.new; refused = refused.new; is_astray = is_astray.new }) }
     ensures numbers { numbers_of seats.new ≡ numbers_of seats.old }
 {
     let mut named = ArrayVec::new();
     match write_named(alloc, site, text, &mut named) {
         Ok(true) => clear_key(cache, refused, seats, named.as_slice()),
         Ok(false) => {}
-        Err(OutOfMemory) => clear_spelled(cache, refused, seats, site, text),
+        Err(OutOfMemory) => {
+            clear_spelled(cache, refused, seats, site, text);
+            *is_astray = true;
+        }
     }
 }
 
@@ -181,7 +188,7 @@ fn clear_spelled(
     site: &[u8],
     text: &[u8],
 )
-    ensures is { (flow : Exchanges) → record { seats = seats.new; flow = flow; cache = cache.new; refused = refused.new } ≡ cleared_of (named_as false site.now text.now) (record { seats = seats.old; flow = flow; cache = cache.old; refused = refused.old }) }
+    ensures is { (flow : Exchanges) (is_astray : Bool) → record { seats = seats.new; flow = flow; cache = cache.new; refused = refused.new; is_astray = is_astray } ≡ cleared_of (named_as false site.now text.now) (record { seats = seats.old; flow = flow; cache = cache.old; refused = refused.old; is_astray = is_astray }) }
     ensures numbers { numbers_of seats.new ≡ numbers_of seats.old }
 {
     if is_spelled_at(site, text) {

@@ -160,7 +160,7 @@ fn join_row(
     tell(state, e, Brought::Joins(span.0, is_plain));
 }
 
-/// Memory was refused for the row: its request is refused.
+/// Memory was refused for the row: its request is refused, and this life goes astray.
 fn refuse_row(state: &mut State, e: &Exchange)
     ensures is { AreSeated state.old → parts state.new ≡ refused_row e.now (parts state.old) }
     ensures numbers { numbers_of state.new.seats.items ≡ numbers_of state.old.seats.items }
@@ -170,6 +170,7 @@ fn refuse_row(state: &mut State, e: &Exchange)
     note_refused(state, e.number);
     state.flow.bind(e.number, None);
     tell(state, e, Brought::Refused);
+    state.is_astray = true;
 }
 
 fn note_refused(state: &mut State, number: u64)

@@ -120,4 +120,4 @@ left_in_order s seated = by (is_any_over s)
 
 pub kept_then : (old mid new : Desk) → KeepsDesk old mid → KeepsDesk mid new → KeepsDesk old new
 kept_then old mid new one two =
-    ap (λ (d : Desk). record d { state = record d.state { seats = old.state.seats; flow = old.state.flow; cache = old.state.cache; refused = old.state.refused }; peers = old.peers }) two ∙ one
+    ap (λ (d : Desk). record d { state = record d.state { seats = old.state.seats; flow = old.state.flow; cache = old.state.cache; refused = old.state.refused; is_astray = old.state.is_astray }; peers = old.peers }) two ∙ one

@@ -1,9 +1,21 @@
--- Replies end, one behind the other.
-use Rattle.std.proofs.Common.{◌≡◌, ◌≤◌, ◌+◌, ℕ, zero, suc, List, [], ◌∷◌, ◌++◌, length, take, slice_get, Option, Some, None, add-one, refl, sym, subst, ap, ◌∙◌, arith}
+-- Replies end, one behind the other, and what the next request is read from.
+use Rattle.std.proofs.Common.{◌≡◌, ◌≤◌, ◌+◌, ◌||◌, ℕ, zero, suc, Bool, List, [], ◌∷◌, ◌++◌, length, take, slice_get, Option, Some, None, add-one, refl, sym, subst, ap, ◌∙◌, arith}
 use Rattle.std.specs.Option.{option_to_list}
 use Rattle.std.proofs.lemmas.List.{append-nil}
-use Rattle.pp_desk.specs.Closings.{Sides}
+use Rattle.pp_desk.specs.Closings.{Sides, sides}
 use Rattle.pp_desk.specs.Replies.{EndsSaid, EndsSaidIn, EndsSaidOf}
+use Rattle.pp_desk.specs.declared.desk.Desk.{Desk}
+use Rattle.pp_state.specs.Ends.{parts}
+use Rattle.pp_state.specs.declared.state.State.{State}
+
+-- a request is read: where its key was refused memory, this life goes astray
+pub looked : (old : Desk) (s : State) (lacks : Bool) → s.is_astray ≡ (old.state.is_astray || lacks) → record s { seats = old.state.seats; is_astray = old.state.is_astray } ≡ old.state
+    → record (sides (record old { state = s })) { parts = record (parts s) { seats = old.state.seats.items } } ≡ record (sides old) { parts = record (parts old.state) { is_astray = old.state.is_astray || lacks } }
+looked old s lacks astray rest =
+    ap (λ (b : Bool). let x : Sides = record { parts = record (parts s) { seats = old.state.seats.items; is_astray = b }; peers = old.peers } in x) astray
+    ∙ ap (λ (t : State). let x : Sides = record { parts = record (parts t) { is_astray = old.state.is_astray || lacks }; peers = old.peers } in x) rest
+
+-- ---- one behind the other
 
 one_behind : (i : ℕ) (is : List ℕ) (old mid new : Sides) → EndsSaid is old mid → EndsSaidOf i mid new → EndsSaid (is ++ i ∷ []) old new
 one_behind i [] old mid new before ends = (new, subst (λ (x : Sides). EndsSaidOf i x new) before ends, refl)

@@ -25,7 +25,7 @@ with_parts f x = record x { parts = f x.parts }
 
 -- all else stays
 abbrev pub KeepsDesk : Desk → Desk → Type 0
-KeepsDesk old new = record new { state = record new.state { seats = old.state.seats; flow = old.state.flow; cache = old.state.cache; refused = old.state.refused }; peers = old.peers } ≡ old
+KeepsDesk old new = record new { state = record new.state { seats = old.state.seats; flow = old.state.flow; cache = old.state.cache; refused = old.state.refused; is_astray = old.state.is_astray }; peers = old.peers } ≡ old
 
 -- one after the other, where it is there
 abbrev pub where_there : {A : Type 0} → (A → ℕ → A) → A → Option ℕ → A

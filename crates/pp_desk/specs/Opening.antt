@@ -37,6 +37,7 @@ pub record IsNew (conf : Conf) (s : State) : Type 0 where
   pub evicting : s.is_evicting ≡ false
   pub forgotten : s.forgotten ≡ []
   pub refused : s.refused ≡ []
+  pub astray : s.is_astray ≡ false
 
 -- ---- the memory that is taken once
 

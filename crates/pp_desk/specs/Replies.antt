@@ -1,17 +1,19 @@
 -- Replies that were said whole are over (RFC 2616, section 8.1), and clients of whom nothing is left are closed.
-use Rattle.std.specs.Prelude.{◌≡◌, ℕ, Bool, true, false, if◌then◌else◌, List, [], ◌∷◌, slice_get, Option, Some, None}
+use Rattle.std.specs.Prelude.{◌≡◌, ◌||◌, ℕ, Bool, true, false, if◌then◌else◌, List, [], ◌∷◌, slice_get, Option, Some, None}
 use Rattle.std.specs.List.{fold}
 use Rattle.pp_desk.specs.Closings.{Sides, closed_client, with_parts}
 use Rattle.pp_seats.specs.Accounts.{anew}
 use Rattle.pp_seats.specs.Seats.{IsRead, at_next_request, finished_in}
 use Rattle.pp_seats.specs.declared.seat.Seat.{Seat}
 use Rattle.pp_state.specs.Ends.{Parts, forsaken, left_source, on_seat}
-use Rattle.pp_state.specs.Hearing.{is_said_in, with_end}
+use Rattle.pp_state.specs.Hearing.{is_said_in, lacks_key_at, with_end}
 use Rattle.pp_state.specs.Places.{IsChangedAt}
 
--- what the client at this place sent is read as a request, where there is none
+-- what the client at this place sent is read as a request, where there is none. Where memory was refused for its key, this life goes
+-- astray
 abbrev pub IsLookedAt : ℕ → Sides → Sides → Type 0
-IsLookedAt i old new = IsChangedAt IsRead i old.parts.seats new.parts.seats × (record new { parts = record new.parts { seats = old.parts.seats } } ≡ old)
+IsLookedAt i old new =
+    IsChangedAt IsRead i old.parts.seats new.parts.seats × (record new { parts = record new.parts { seats = old.parts.seats } } ≡ record old { parts = record old.parts { is_astray = old.parts.is_astray || lacks_key_at i new.parts.seats } })
 
 -- ---- a reply is over
 

@@ -73,6 +73,7 @@ fn state_of(alloc: Global, conf: &Conf) -> Result<State, OutOfMemory>
         awake: Vec::with_capacity(alloc, MAX_CLIENTS)?,
         forgotten: Noted::new(alloc)?,
         refused: Noted::new(alloc)?,
+        is_astray: false,
         seats: Vec::with_capacity(alloc, MAX_CLIENTS)?,
         flow: Flow::new(alloc)?,
         cache: Cache::new(alloc, conf.critical)?,

@@ -3,7 +3,7 @@ ghost use Rattle.std.specs.Prelude.{◌≡◌, ◌≤◌, slice_get};
 ghost use Rattle.pp_links.specs.Links.{IsLinked};
 ghost use Rattle.pp_links.specs.Quiet.{GrowsQuietly};
 ghost use Rattle.pp_desk.specs.Closings.{KeepsDesk, sides, where_there};
-ghost use Rattle.pp_desk.specs.Replies.{EndsReplies, EndsReply, EndsSaid, EndsSaidIn, EndsSaidOf, account_renewed, at_next, closes_in, is_finished_in, without_finished, without_finished_at};
+ghost use Rattle.pp_desk.specs.Replies.{EndsReplies, EndsReply, EndsSaid, EndsSaidIn, EndsSaidOf, IsLookedAt, account_renewed, at_next, closes_in, is_finished_in, without_finished, without_finished_at};
 ghost use Rattle.pp_seats.specs.Seats.{at_next_request};
 ghost use Rattle.pp_state.specs.Ends.{changed_at, numbers_of, parts, AreSeated, KeepsRest};
 
@@ -150,8 +150,17 @@ impl Desk {
             self.close_client(i);
         } else {
             begin_next(&mut self.state, i);
-            self.state.look(i);
+            self.look(i);
         }
+    }
+
+    /// What the client at this place sent is read as a request, where there is none.
+    fn look(&mut self, i: usize)
+        ensures is { IsLookedAt i (sides self.old) (sides self.new) }
+        ensures numbers { numbers_of self.new.state.seats.items ≡ numbers_of self.old.state.seats.items }
+        ensures rest { KeepsDesk self.old self.new }
+    {
+        self.state.look(i);
     }
 }
 

@@ -19,6 +19,7 @@ use Rattle.pp_world.specs.declared.note.Decision.{Decision}
 use Rattle.pp_decide.specs.Decide.{if_fits, kind_of, shown_span}
 use Rattle.pp_due.specs.Due.{cut_of, decision_of, due_at}
 use Rattle.pp_due.specs.OnDisk.{IsBrought, kept_alone}
+use Rattle.pp_state.specs.Astray.{gone_astray}
 use Rattle.pp_state.specs.Pins.{with_room}
 use Rattle.pp_decide.specs.Sharing.{shared_ask}
 use Rattle.pp_state.specs.declared.state.State.{State}
@@ -79,7 +80,7 @@ is_due_to shelf s seat = elim seat.is_closing [
 abbrev pub is_due_at : KeptMap → ℕ → State → Bool
 is_due_at shelf i s = elim (slice_get s.seats.items i) [ None ↦ false | Some seat ↦ is_due_to shelf s seat ]
 
--- ---- memory is refused for the kept row: the request is refused
+-- ---- memory is refused for the kept row: the request is refused, and this life goes astray
 
 abbrev pub refused_at : ℕ → List Seat → List Seat
 refused_at i seats = elim (slice_get seats i) [ None ↦ seats | Some seat ↦ slice_set seats i (record seat { brought = Refused }) ]
@@ -87,7 +88,7 @@ refused_at i seats = elim (slice_get seats i) [ None ↦ seats | Some seat ↦ s
 -- all but the clients stays
 pub record IsRefused (i : ℕ) (old new : State) : Type 0 where
   pub seats : new.seats.items ≡ refused_at i old.seats.items
-  pub rest : record new { seats = old.seats } ≡ old
+  pub rest : record new { seats = old.seats } ≡ gone_astray old
 
 -- ---- it comes into memory
 
@@ -123,9 +124,9 @@ HasRow shelf i old new = HasRowOf shelf i (key_at i old) old new
 
 -- ---- for a response that came: with room for it
 
--- it comes in, or memory is refused for it
+-- it comes in, or memory is refused for it, and this life goes astray
 abbrev pub MayCome : KeptMap → List ℕ → State → State → Type 0
-MayCome shelf key old new = Comes shelf key old new ⊎ (new ≡ old)
+MayCome shelf key old new = Comes shelf key old new ⊎ (new ≡ gone_astray old)
 
 -- there may be one row too many
 abbrev pub with_room_if_over : State → State

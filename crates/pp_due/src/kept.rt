@@ -1,10 +1,11 @@
 // Rows that come from the disk, and bytes that stand there alone.
-ghost use Rattle.std.specs.Prelude.{◌≡◌, None, true, is_none, is_ok, option_map, slice_get, OnErr, OnOk};
+ghost use Rattle.std.specs.Prelude.{◌≡◌, ◌||◌, not, None, true, is_none, is_ok, option_map, slice_get, OnErr, OnOk};
 ghost use Rattle.pp_client.specs.Requests.{current_of};
 ghost use Rattle.pp_due.specs.Entering.{HasRow, HasRowFor, asks_by_kept, decide_by_kept, is_below, is_due_at, is_due_to, is_to_decide, enters_at, may_share_first, plain_key, refused_at, with_room_if_over};
 ghost use Rattle.pp_seats.specs.Dues.{begun_in};
 ghost use Rattle.pp_seats.specs.Heads.{asked_in};
 ghost use Rattle.std.specs.Option.{option_and_then};
+ghost use Rattle.pp_state.specs.Astray.{gone_astray};
 ghost use Rattle.pp_state.specs.Keys.{key_of};
 ghost use Rattle.pp_head.specs.Shown.{shown_request};
 ghost use Rattle.pp_store.specs.Views.{shown};
@@ -26,7 +27,7 @@ use pp_world::Decision;
 use std::alloc::Global;
 
 /// Where a decision is due to the client at this place, the kept row that its request names comes into memory: with each but one
-/// for want of memory. Where memory is refused for it, the request is refused.
+/// for want of memory. Where memory is refused for it, the request is refused, and this life goes astray.
 pub(crate) fn bring_row_of(state: &mut State, shelf: &Shelf, i: usize)
     ensures { HasRow shelf.now i state.old state.new }
 {
@@ -55,15 +56,22 @@ fn is_to_enter(state: &State, i: usize) -> bool
     cut_of(state, seat).is_none() && !is_refused
 }
 
-/// The same of the key of an exchange whose response came, with room for it.
+/// The same of the key of an exchange whose response came, with room for it. Where memory is refused for it, this life goes astray.
 pub fn bring_row_for(state: &mut State, shelf: &Shelf, number: u64)
     ensures { HasRowFor shelf.now (key_of number state.old.flow) state.old state.new }
 {
     let Some(key) = state.flow.key(number) else {
         return;
     };
-    let _ = bring(state.alloc, &mut state.cache, shelf, key);
+    let is_brought = bring(state.alloc, &mut state.cache, shelf, key).is_ok();
+    note_brought(&mut state.is_astray, is_brought);
     make_room_if_over(state);
+}
+
+fn note_brought(is_astray: &mut bool, is_brought: bool)
+    ensures { is_astray.new ≡ (is_astray.old || not is_brought) }
+{
+    *is_astray = *is_astray || !is_brought;
 }
 
 /// There may be one row too many.
@@ -78,8 +86,9 @@ fn make_room_if_over(state: &mut State)
 /// Memory was refused for the kept row of its key.
 fn refuse_row(state: &mut State, i: usize)
     ensures seats { state.new.seats.items ≡ refused_at i state.old.seats.items }
-    ensures rest { record state.new { seats = state.old.seats } ≡ state.old }
+    ensures rest { record state.new { seats = state.old.seats } ≡ gone_astray state.old }
 {
+    state.is_astray = true;
     if let Some(seat) = state.seats.get_mut(i) {
         seat.brought = Brought::Refused;
     }

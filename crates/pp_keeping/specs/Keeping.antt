@@ -7,6 +7,7 @@ use Rattle.pp_keeping.specs.Runs.{KeepsNext}
 use Rattle.pp_keeping.specs.declared.run.Outcome.{Outcome}
 use Rattle.pp_keeping.specs.declared.run.Outcome.TheVariants.{LostDraft, To}
 use Rattle.pp_objects.specs.declared.id.ObjectId.{ObjectId}
+use Rattle.pp_state.specs.Astray.{gone_astray_where}
 use Rattle.pp_state.specs.declared.state.State.{State}
 use Rattle.pp_store.specs.Kept.{KeptMap}
 use Rattle.pp_world.specs.Log.{Log}
@@ -25,11 +26,26 @@ with_memory m s = record s { cache = m }
 abbrev pub all_but_last : {A : Type 0} → List A → List A
 all_but_last xs = take (length xs - 1) xs
 
--- as long as it goes on, and so often at most
-unfoldable pub Repeats : (Keeping → Keeping → Bool → Type 0) → ℕ → Bool → Keeping → Keeping → Type 0
-Repeats Step zero goes x y = y ≡ x
-Repeats Step (suc more) false x y = y ≡ x
-Repeats Step (suc more) true x y = (next : Keeping) × (again : Bool) × Step x next again × Repeats Step more again next y
+-- as long as it goes on, and so often at most; behind the last it ends so, by whether it would go on
+unfoldable pub RepeatsTo : (Bool → Keeping → Keeping) → (Keeping → Keeping → Bool → Type 0) → ℕ → Bool → Keeping → Keeping → Type 0
+RepeatsTo End Step zero goes x y = y ≡ End goes x
+RepeatsTo End Step (suc more) false x y = y ≡ x
+RepeatsTo End Step (suc more) true x y = (next : Keeping) × (again : Bool) × Step x next again × RepeatsTo End Step more again next y
+
+abbrev pub ends_there : Bool → Keeping → Keeping
+ends_there goes x = x
+
+-- for each of a list, of which none is left
+abbrev pub Repeats : (Keeping → Keeping → Bool → Type 0) → ℕ → Bool → Keeping → Keeping → Type 0
+Repeats Step more goes x y = RepeatsTo ends_there Step more goes x y
+
+-- this life goes astray
+abbrev pub ends_astray : Bool → Keeping → Keeping
+ends_astray goes x = record x { state = gone_astray_where goes x.state }
+
+-- more often than there can be anything to do; where there is more all the same, this life goes astray
+abbrev pub RepeatsOn : (Keeping → Keeping → Bool → Type 0) → ℕ → Bool → Keeping → Keeping → Type 0
+RepeatsOn Step more goes x y = RepeatsTo ends_astray Step more goes x y
 
 -- ---- what stands no more is taken away
 
@@ -68,19 +84,20 @@ pub record KeepsRun (id : ObjectId) (room : ℕ) (x y : Keeping) (goes : Bool) :
 abbrev pub without_grown : Memory → Memory
 without_grown m = record m { grown = all_but_last m.grown }
 
--- the last of the instances to which bytes joined is forgotten, and kept run for run: the longest body has 16,384 of one chunk
+-- the last of the instances to which bytes joined is forgotten, and kept run for run: the longest body has 16,384 of one chunk, and
+-- behind them there is none
 pub record KeepsGrown (room : ℕ) (x y : Keeping) : Type 0 where
   pub id : ObjectId
   pub last : x.state.cache.grown ≡ all_but_last x.state.cache.grown ++ id ∷ []
-  pub runs : Repeats (KeepsRun id room) 16384 true (record x { state = with_memory (without_grown x.state.cache) x.state }) y
+  pub runs : RepeatsOn (KeepsRun id room) 16385 true (record x { state = with_memory (without_grown x.state.cache) x.state }) y
 
 abbrev pub GrownNext : ℕ → Keeping → Keeping → Bool → Type 0
 GrownNext room x y false = (x.state.cache.grown ≡ []) × (y ≡ x)
 GrownNext room x y true = KeepsGrown room x y
 
--- ---- all of it: each name that is outdated, and then each of 16 instances at most
+-- ---- all of it: each name that is outdated, and then each of 16 instances at most, behind which there is none
 
 pub record KeepsAll (room : ℕ) (x y : Keeping) : Type 0 where
   pub between : Keeping
   pub takes : Repeats TakesNext (length x.state.cache.outdated) true x between
-  pub keeps : Repeats (GrownNext room) 16 true between y
+  pub keeps : RepeatsOn (GrownNext room) 17 true between y

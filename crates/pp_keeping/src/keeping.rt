@@ -1,7 +1,7 @@
 // Step 3: what stands no more is taken off the disk, and what is whole is kept there.
-ghost use Rattle.std.specs.Prelude.{◌≡◌, ◌≤◌, length, option_map, true};
+ghost use Rattle.std.specs.Prelude.{◌≡◌, ◌≤◌, ◌||◌, length, option_map, true};
 ghost use Rattle.pp_desk.specs.Anything.{anything};
-ghost use Rattle.pp_keeping.specs.Keeping.{goes_on, keeping, with_memory, with_outcome, GrownNext, KeepsAll, KeepsRun, Repeats, TakesNext};
+ghost use Rattle.pp_keeping.specs.Keeping.{goes_on, keeping, with_memory, with_outcome, GrownNext, KeepsAll, KeepsRun, Repeats, RepeatsOn, TakesNext};
 ghost use Rattle.pp_keeping.specs.Kept.{key_under, outside, unkept, unkept_of, with_room, TakesAway, TakesKey};
 ghost use Rattle.pp_links.specs.Links.{IsLinked};
 ghost use Rattle.pp_shelf.specs.Steady.{GrowsSteadily};
@@ -20,11 +20,11 @@ use pp_state::State;
 use pp_target::KEY_ROOM;
 use pp_world::{Name, Note, World};
 
-/// The runs of the longest body.
-const RUNS: u32 = 16_384;
+/// One more than the longest body has runs.
+const RUNS: u32 = 16_385;
 
-/// The instances that grow in one turn.
-const GROWN: u32 = 16;
+/// One more than the instances that grow in one turn.
+const GROWN: u32 = 17;
 
 /// What stands no more is taken away, and what came in this turn is kept as far as it is whole.
 #[tactic(auto, using(pp_shelf::proofs::SteadyLemmas::steady_then))]
@@ -35,7 +35,7 @@ pub fn keep<W: World>(desk: &mut Desk, links: &Links, shelf: &mut Shelf, world: 
     ensures holds { Told (W.log world.new) (Holds anything shelf.new) }
     ensures steady { GrowsSteadily (W.log world.old) (W.log world.new) }
     ensures is { KeepsAll (length desk.old.file.items) (keeping desk.old.state shelf.old (W.log world.old) (W.faults world.old)) (keeping desk.new.state shelf.new (W.log world.new) (W.faults world.new)) }
-    ensures rest { record desk.new { state = record desk.new.state { cache = desk.old.state.cache; has_lost_draft = desk.old.state.has_lost_draft }; file = desk.old.file } ≡ desk.old }
+    ensures rest { record desk.new { state = record desk.new.state { cache = desk.old.state.cache; has_lost_draft = desk.old.state.has_lost_draft; is_astray = desk.old.state.is_astray }; file = desk.old.file } ≡ desk.old }
     ensures long { length desk.new.file.items ≡ length desk.old.file.items }
     ensures top { W.top world.new ≡ W.top world.old }
     ensures faults { W.faults world.old ≤ W.faults world.new }
@@ -156,7 +156,7 @@ fn note_gone(cache: &mut Cache, key: &[u8])
 
 // ---- what came
 
-/// What came in this turn is kept as far as it is whole.
+/// What came in this turn is kept as far as it is whole. Where there is more than there can be, this life goes astray.
 #[tactic(auto, using(pp_shelf::proofs::SteadyLemmas::steady_then, pp_shelf::proofs::SteadyLemmas::steady_none))]
 fn keep_rows<W: World>(desk: &mut Desk, links: &Links, shelf: &mut Shelf, world: &mut W)
     requires linked { IsLinked (W.log world.old) (W.top world.old) links.now }
@@ -164,8 +164,8 @@ fn keep_rows<W: World>(desk: &mut Desk, links: &Links, shelf: &mut Shelf, world:
     ensures linked { IsLinked (W.log world.new) (W.top world.new) links.now }
     ensures holds { Told (W.log world.new) (Holds anything shelf.new) }
     ensures steady { GrowsSteadily (W.log world.old) (W.log world.new) }
-    ensures is { Repeats (GrownNext (length desk.old.file.items)) 16 true (keeping desk.old.state shelf.old (W.log world.old) (W.faults world.old)) (keeping desk.new.state shelf.new (W.log world.new) (W.faults world.new)) }
-    ensures rest { record desk.new { state = record desk.new.state { cache = desk.old.state.cache; has_lost_draft = desk.old.state.has_lost_draft }; file = desk.old.file } ≡ desk.old }
+    ensures is { RepeatsOn (GrownNext (length desk.old.file.items)) 17 true (keeping desk.old.state shelf.old (W.log world.old) (W.faults world.old)) (keeping desk.new.state shelf.new (W.log world.new) (W.faults world.new)) }
+    ensures rest { record desk.new { state = record desk.new.state { cache = desk.old.state.cache; has_lost_draft = desk.old.state.has_lost_draft; is_astray = desk.old.state.is_astray }; file = desk.old.file } ≡ desk.old }
     ensures long { length desk.new.file.items ≡ length desk.old.file.items }
     ensures top { W.top world.new ≡ W.top world.old }
     ensures faults { W.faults world.old ≤ W.faults world.new }
@@ -173,10 +173,11 @@ fn keep_rows<W: World>(desk: &mut Desk, links: &Links, shelf: &mut Shelf, world:
     let mut goes = true;
     for _row in 0..GROWN {
         if !goes {
-            break;
+            return;
         }
         goes = keep_grown(desk, links, shelf, world);
     }
+    note_more(&mut desk.state, goes);
 }
 
 /// The last of the instances that grew is forgotten, and kept as far as it is whole. False where there is none.
@@ -188,7 +189,7 @@ fn keep_grown<W: World>(desk: &mut Desk, links: &Links, shelf: &mut Shelf, world
     ensures holds { Told (W.log world.new) (Holds anything shelf.new) }
     ensures steady { GrowsSteadily (W.log world.old) (W.log world.new) }
     ensures is { GrownNext (length desk.old.file.items) (keeping desk.old.state shelf.old (W.log world.old) (W.faults world.old)) (keeping desk.new.state shelf.new (W.log world.new) (W.faults world.new)) result }
-    ensures rest { record desk.new { state = record desk.new.state { cache = desk.old.state.cache; has_lost_draft = desk.old.state.has_lost_draft }; file = desk.old.file } ≡ desk.old }
+    ensures rest { record desk.new { state = record desk.new.state { cache = desk.old.state.cache; has_lost_draft = desk.old.state.has_lost_draft; is_astray = desk.old.state.is_astray }; file = desk.old.file } ≡ desk.old }
     ensures long { length desk.new.file.items ≡ length desk.old.file.items }
     ensures top { W.top world.new ≡ W.top world.old }
     ensures faults { W.faults world.old ≤ W.faults world.new }
@@ -200,7 +201,7 @@ fn keep_grown<W: World>(desk: &mut Desk, links: &Links, shelf: &mut Shelf, world
     true
 }
 
-/// Keeps an instance run for run, as far as it is whole.
+/// Keeps an instance run for run, as far as it is whole. Where it has more runs than there can be, this life goes astray.
 #[tactic(auto, using(pp_shelf::proofs::SteadyLemmas::steady_then, pp_shelf::proofs::SteadyLemmas::steady_none))]
 fn keep_runs<W: World>(
     desk: &mut Desk,
@@ -214,8 +215,8 @@ fn keep_runs<W: World>(
     ensures linked { IsLinked (W.log world.new) (W.top world.new) links.now }
     ensures holds { Told (W.log world.new) (Holds anything shelf.new) }
     ensures steady { GrowsSteadily (W.log world.old) (W.log world.new) }
-    ensures is { Repeats (KeepsRun id (length desk.old.file.items)) 16384 true (keeping desk.old.state shelf.old (W.log world.old) (W.faults world.old)) (keeping desk.new.state shelf.new (W.log world.new) (W.faults world.new)) }
-    ensures rest { record desk.new { state = record desk.new.state { cache = desk.old.state.cache; has_lost_draft = desk.old.state.has_lost_draft }; file = desk.old.file } ≡ desk.old }
+    ensures is { RepeatsOn (KeepsRun id (length desk.old.file.items)) 16385 true (keeping desk.old.state shelf.old (W.log world.old) (W.faults world.old)) (keeping desk.new.state shelf.new (W.log world.new) (W.faults world.new)) }
+    ensures rest { record desk.new { state = record desk.new.state { cache = desk.old.state.cache; has_lost_draft = desk.old.state.has_lost_draft; is_astray = desk.old.state.is_astray }; file = desk.old.file } ≡ desk.old }
     ensures long { length desk.new.file.items ≡ length desk.old.file.items }
     ensures top { W.top world.new ≡ W.top world.old }
     ensures faults { W.faults world.old ≤ W.faults world.new }
@@ -223,10 +224,11 @@ fn keep_runs<W: World>(
     let mut goes = true;
     for _run in 0..RUNS {
         if !goes {
-            break;
+            return;
         }
         goes = keep_run(desk, links, shelf, world, id);
     }
+    note_more(&mut desk.state, goes);
 }
 
 /// Keeps one run of an instance more. Whether another may follow.
@@ -250,6 +252,13 @@ fn keep_run<W: World>(
 {
     let outcome = keep_next(&desk.state, id, links, shelf, world, &mut desk.file);
     take_outcome(&mut desk.state, id, outcome)
+}
+
+/// This life goes astray where there is more.
+fn note_more(state: &mut State, goes: bool)
+    ensures { state.new ≡ record state.old { is_astray = state.old.is_astray || goes } }
+{
+    state.is_astray = state.is_astray || goes;
 }
 
 /// What memory knows of it then, and whether another run may follow.

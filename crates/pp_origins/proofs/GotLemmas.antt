@@ -21,6 +21,7 @@ use Rattle.pp_pipe.specs.Front.{stays_open}
 use Rattle.pp_pipe.specs.declared.step.Step.{Step}
 use Rattle.pp_pipe.specs.declared.step.Step.TheVariants.{Body}
 use Rattle.pp_seats.specs.declared.seat.Seat.{Seat}
+use Rattle.pp_state.specs.Astray.{gone_astray}
 use Rattle.pp_state.specs.Ends.{AreInOrder, AreSeated, KeepsRest, numbers_of, parts}
 use Rattle.pp_state.specs.Pins.{with_room}
 use Rattle.pp_state.specs.declared.state.State.{State}
@@ -68,7 +69,7 @@ asked_data old asked rest = ap (λ (d : Desk). vec_capacity d.«data») rest
 pub asked_same : (old asked : Desk) → asked.state.seats.items ≡ old.state.seats.items → record asked { state = record asked.state { seats = old.state.seats } } ≡ old → Makes (λ z. z) (both old) (both asked)
 asked_same old asked seats rest = record {
   is = ap (λ (others : List Seat). record (sides asked) { parts = record (parts asked.state) { seats = others } }) seats ∙ ap sides rest;
-  rest = ap (λ (d : Desk). record d.state { flow = old.state.flow; cache = old.state.cache; refused = old.state.refused }) rest;
+  rest = ap (λ (d : Desk). record d.state { flow = old.state.flow; cache = old.state.cache; refused = old.state.refused; is_astray = old.state.is_astray }) rest;
 }
 
 pub received_front : (found : Found) (shelf : KeptMap) (k room : ℕ) (xs : List ℕ) (x y : Both) → IfSome found (λ r. IfOk r (IsWithin room)) → IsReceived found shelf k xs x y → IsReceived found shelf k (take room xs) x y
@@ -206,13 +207,16 @@ got_over (suc more) shelf k x = refl
 pub all_got : (most i : ℕ) (shelf : KeptMap) (k : ℕ) (first : Option Remains) (x mid : Both) → AreGotSoFar most i shelf k first None x mid → GotFrom most shelf k first x mid
 all_got most i shelf k first x mid before = before.on mid (got_over (most - i) shelf k mid)
 
-no_more : (shelf : KeptMap) (k : ℕ) (here : Option Remains) (x : Both) → GotFrom 0 shelf k here x x
+abbrev more_left : Both → Both
+more_left x = record x { state = gone_astray x.state }
+
+no_more : (shelf : KeptMap) (k : ℕ) (here : Remains) (x : Both) → GotFrom 0 shelf k (Some here) x (more_left x)
 unfolding GotFrom
 no_more shelf k here x = refl
 
--- or there were as many as may be
-pub most_got : (most i : ℕ) (shelf : KeptMap) (k : ℕ) (first here : Option Remains) (x mid : Both) → most ≤ i → AreGotSoFar most i shelf k first here x mid → GotFrom most shelf k first x mid
-most_got most i shelf k first here x mid all before = before.on mid (subst (λ (n : ℕ). GotFrom n shelf k here mid mid) (sym (none_left most i all)) (no_more shelf k here mid))
+-- or there were as many as may be, and one more was to come
+pub most_got : (most i : ℕ) (shelf : KeptMap) (k : ℕ) (first : Option Remains) (here : Remains) (x mid : Both) → most ≤ i → AreGotSoFar most i shelf k first (Some here) x mid → GotFrom most shelf k first x (record mid { state = gone_astray mid.state })
+most_got most i shelf k first here x mid all before = before.on (more_left mid) (subst (λ (n : ℕ). GotFrom n shelf k (Some here) mid (more_left mid)) (sym (none_left most i all)) (no_more shelf k here mid))
   where
     none_left : (most i : ℕ) → most ≤ i → most - i ≡ 0
     none_left most i all = grind (arith)

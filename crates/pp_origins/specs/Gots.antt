@@ -23,6 +23,7 @@ use Rattle.pp_pipe.specs.Line.{stepped}
 use Rattle.pp_pipe.specs.Reading.{Reading, head_in}
 use Rattle.pp_pipe.specs.declared.step.Step.{Step}
 use Rattle.pp_pipe.specs.declared.step.Step.TheVariants.{Head, Body, End, Bad, Idle}
+use Rattle.pp_state.specs.Astray.{gone_astray_where}
 use Rattle.pp_state.specs.Bodies.{IsButForCells, delivered, poured_for}
 use Rattle.pp_state.specs.Ends.{KeepsRest, exchange_at, parts}
 use Rattle.pp_state.specs.Keys.{key_of}
@@ -174,9 +175,9 @@ abbrev pub IsStepOn : Option Peer → KeptMap → ℕ → Remains → Both → B
 IsStepOn None shelf k here old new behind = (new ≡ old) × (behind ≡ None)
 IsStepOn (Some peer) shelf k here old new behind = IsStep shelf k peer here old new behind
 
--- so many at most, one behind the other
+-- so many at most, one behind the other: where one more was to come, this life goes astray
 unfoldable pub GotFrom : ℕ → KeptMap → ℕ → Option Remains → Both → Both → Type 0
-GotFrom zero shelf k here old new = new ≡ old
+GotFrom zero shelf k here old new = new ≡ record old { state = gone_astray_where (is_some here) old.state }
 GotFrom (suc more) shelf k None old new = new ≡ old
 GotFrom (suc more) shelf k (Some here) old new =
     (next : Both) × (behind : Option Remains) × IsStepOn (going_on (find (is_number k) old.peers)) shelf k here old next behind × GotFrom more shelf k behind next new

@@ -20,7 +20,8 @@ use pp_steps::deliver;
 /// More steps than one read can tell.
 const STEPS: usize = 2 * READ_LEN + 64;
 
-/// What one read brought, one step behind the other, up to a cause to close the connection.
+/// What one read brought, one step behind the other, up to a cause to close the connection. Where it would have told more steps than
+/// it can, this life goes astray.
 pub(crate) fn bytes_came(desk: &mut Desk, shelf: &Shelf, k: u64, n: usize)
     requires { n ≤ length desk.old.buffer.items }
     ensures is { AreSeated desk.old.state → n ≤ vec_capacity desk.old.«data» → HasGot shelf.now k (take n desk.old.buffer.items) (both desk.old) (both desk.new) }
@@ -32,10 +33,11 @@ pub(crate) fn bytes_came(desk: &mut Desk, shelf: &Shelf, k: u64, n: usize)
     let mut at: usize = 0;
     for _step in 0..STEPS {
         match step_came(desk, shelf, k, at, n) {
-            None => break,
+            None => return,
             Some(next) => at = next,
         }
     }
+    desk.state.is_astray = true;
 }
 
 /// One step of what was read, from one place up to another. Where the next one begins, and None where it is the last.

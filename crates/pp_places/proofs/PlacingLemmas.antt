@@ -1,5 +1,5 @@
 -- Exchanges get their places, one behind the other.
-use Rattle.std.proofs.Common.{◌≡◌, ◌<◌, ◌≤◌, ◌-◌, ◌+◌, ◌↔◌, ◌==◌, not, ℕ, zero, suc, Bool, true, false, cond, nat_lt, is_ok, IfOk, IsErr, OnErr, List, [], ◌∷◌, ◌++◌, Option, Some, None, Result, Ok, Err, append_assoc, le_refl, refl, sym, ap, subst, ◌∙◌, arith}
+use Rattle.std.proofs.Common.{◌≡◌, ◌<◌, ◌≤◌, ◌-◌, ◌+◌, ◌↔◌, ◌==◌, not, ℕ, zero, suc, Bool, true, false, cond, nat_lt, is_ok, is_some, IfOk, IsErr, OnErr, List, [], ◌∷◌, ◌++◌, Option, Some, None, Result, Ok, Err, append_assoc, le_refl, refl, sym, ap, subst, ◌∙◌, arith}
 use Rattle.std.specs.Prelude.{count_by}
 use Rattle.std.proofs.lemmas.Bool.Decides.{nat_tests}
 use Rattle.std.specs.List.{find}
@@ -8,11 +8,13 @@ use Rattle.pp_links.specs.Failures.{fails}
 use Rattle.pp_links.specs.Leading.{LeadsOn}
 use Rattle.pp_links.specs.Links.{Link, is_link, max_links, without}
 use Rattle.pp_links.proofs.FailureLemmas.{counted_none, counted_one, counted_then, none_in_both}
-use Rattle.pp_places.specs.Around.{Around, Moment}
+use Rattle.pp_places.specs.Around.{Around, Moment, with_sides}
 use Rattle.pp_flow.specs.Changes.{entry_of}
 use Rattle.pp_flow.specs.declared.entry.Entry.{Entry}
 use Rattle.pp_peers.specs.declared.placing.Placed.{Placed}
-use Rattle.pp_places.specs.Placing.{ArePlaced, IsDialledFor, IsDialledTo, IsPlaced, IsPlacedAs, dial_log, dials_to, goes_on_behind, host_of, next_waiting, place_for}
+use Rattle.pp_desk.specs.Closings.{with_parts}
+use Rattle.pp_state.specs.Astray.{astray_where}
+use Rattle.pp_places.specs.Placing.{ArePlaced, IsDialledFor, IsDialledTo, IsPlaced, IsPlacedAs, dial_log, astray_behind, dials_to, goes_on_behind, host_of, next_waiting, place_for}
 use Rattle.pp_desk.specs.Shutting.{closed_as, closings}
 use Rattle.pp_desk.proofs.ShuttingLemmas.{none_added}
 use Rattle.pp_world.specs.Log.{Appends, AppendsAll, Log, Rises, Told}
@@ -133,7 +135,7 @@ one_more_placed most i m number after behind x mid new old log log' first counts
 
 placed_over : (more : ℕ) (m : Moment) (after : Option ℕ) (x : Around) → next_waiting after x.sides ≡ None → ArePlaced more m after x [] x
 unfolding ArePlaced
-placed_over zero m after x none = (refl, refl)
+placed_over zero m after x none = (refl, ap (λ (o : Option ℕ). with_sides (with_parts (astray_where (is_some o))) x) (sym none))
 placed_over (suc more) m after x none = subst (λ (o : Option ℕ). next_by more m x [] x o) (sym none) (refl, refl)
 
 -- none waits any more
@@ -148,15 +150,17 @@ all_placed most i m after x mid old log first counts before none = record {
 none_left : (most i : ℕ) → most ≤ i → most - i ≡ 0
 none_left most i all = grind (arith)
 
-none_more : (m : Moment) (after : Option ℕ) (x : Around) → ArePlaced 0 m after x [] x
+none_more : (m : Moment) (after : Option ℕ) (x : Around) → ArePlaced 0 m after x [] (astray_behind after x)
 unfolding ArePlaced
 none_more m after x = (refl, refl)
 
--- or there were as many as may be
-pub most_placed : (most i : ℕ) (m : Moment) (after : Option ℕ) (x mid : Around) (old log : Option Log) (first counts : ℕ) → most ≤ i → AreSoFar most i m after x mid old log first counts → LeadsOn (ArePlaced most m None) x mid old log first counts
+-- or there were as many as may be, and one may be left
+pub most_placed : (most i : ℕ) (m : Moment) (after : Option ℕ) (x mid : Around) (old log : Option Log) (first counts : ℕ) → most ≤ i → AreSoFar most i m after x mid old log first counts → LeadsOn (ArePlaced most m None) x (astray_behind after mid) old log first counts
 most_placed most i m after x mid old log first counts all before = record {
   added = before.added;
-  is = subst (λ (l : Log). ArePlaced most m None x l mid) (append-nil before.added) (before.on [] mid (subst (λ (n : ℕ). ArePlaced n m after mid [] mid) (sym (none_left most i all)) (none_more m after mid)));
+  is =
+      let y : Around = astray_behind after mid in
+      subst (λ (l : Log). ArePlaced most m None x l y) (append-nil before.added) (before.on [] y (subst (λ (n : ℕ). ArePlaced n m after mid [] y) (sym (none_left most i all)) (none_more m after mid)));
   told = before.told;
   counted = before.counted;
 }

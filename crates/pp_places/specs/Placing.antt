@@ -19,6 +19,7 @@ use Rattle.pp_pipe.specs.Line.{Line, pushed_where, room_of}
 use Rattle.pp_places.specs.Around.{Around, Moment, with_sides}
 use Rattle.pp_desk.specs.Closings.{Sides, with_parts}
 use Rattle.pp_desk.specs.Shutting.{closings}
+use Rattle.pp_state.specs.Astray.{astray_where}
 use Rattle.pp_state.specs.Ends.{asked_anew, ended}
 use Rattle.pp_take.specs.Unplaced.{refused_dial}
 use Rattle.pp_world.specs.Log.{Log}
@@ -163,9 +164,13 @@ goes_on_behind Wait number = Some number
 abbrev pub next_waiting : Option ℕ → Sides → Option ℕ
 next_waiting after x = option_map (λ e. e.exchange.number) (find (is_after after) x.parts.flow.waiting)
 
+-- this life goes astray where one is left
+abbrev pub astray_behind : Option ℕ → Around → Around
+astray_behind after x = with_sides (with_parts (astray_where (is_some (next_waiting after x.sides)))) x
+
 -- so many at most
 unfoldable pub ArePlaced : ℕ → Moment → Option ℕ → Around → Log → Around → Type 0
-ArePlaced zero m after x log y = (log ≡ []) × (y ≡ x)
+ArePlaced zero m after x log y = (log ≡ []) × (y ≡ astray_behind after x)
 ArePlaced (suc more) m after x log y = elim (next_waiting after x.sides) [
   | None ↦ (log ≡ []) × (y ≡ x)
   | Some number ↦ (next : Around) × (first : Log) × (rest : Log) × (log ≡ first ++ rest) × IsPlaced m number x first next × ArePlaced more m (goes_on_behind (place_for m.limits number x.sides) number) next rest y

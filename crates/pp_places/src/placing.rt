@@ -9,9 +9,10 @@ ghost use Rattle.pp_links.specs.Quiet.{GrowsQuietly};
 ghost use Rattle.pp_peers.specs.Peers.{is_number, without as without_peer};
 ghost use Rattle.pp_pipe.specs.Line.{pushed_where};
 ghost use Rattle.pp_places.specs.Around.{around, moment_of};
-ghost use Rattle.pp_desk.specs.Closings.{KeepsDesk, has_closing, sides};
-ghost use Rattle.pp_places.specs.Placing.{ArePlaced, IsPlaced, goes_on_behind, host_of, is_put, place_for, put_last, put_on, put_text, put_text_where, takes, takes_on, text_on};
+ghost use Rattle.pp_desk.specs.Closings.{KeepsDesk, has_closing, sides, with_parts};
+ghost use Rattle.pp_places.specs.Placing.{ArePlaced, IsPlaced, goes_on_behind, host_of, is_put, next_waiting, place_for, put_last, put_on, put_text, put_text_where, takes, takes_on, text_on};
 ghost use Rattle.pp_desk.specs.Shutting.{closings};
+ghost use Rattle.pp_state.specs.Astray.{astray_where};
 ghost use Rattle.pp_state.specs.Ends.{numbers_of, AreSeated};
 ghost use Rattle.pp_world.specs.Log.{AppendsAll};
 
@@ -42,9 +43,21 @@ pub fn place<W: Wire>(desk: &mut Desk, links: &mut Links, world: &mut W)
     let mut after: Option<u64> = None;
     for _place in 0..PLACES {
         let Some(number) = desk.state.flow.waiting(after) else {
-            break;
+            return;
         };
         after = place_one(desk, links, world, number);
+    }
+    note_left(desk, after);
+}
+
+/// This life goes astray where one is left behind it.
+fn note_left(desk: &mut Desk, after: Option<u64>)
+    ensures is { sides desk.new ≡ with_parts (astray_where (is_some (next_waiting after (sides desk.old)))) (sides desk.old) }
+    ensures numbers { numbers_of desk.new.state.seats.items ≡ numbers_of desk.old.state.seats.items }
+    ensures rest { KeepsDesk desk.old desk.new }
+{
+    if desk.state.flow.waiting(after).is_some() {
+        desk.state.is_astray = true;
     }
 }
 

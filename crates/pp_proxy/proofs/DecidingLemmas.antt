@@ -13,6 +13,7 @@ use Rattle.pp_proxy.specs.Deciding.{Decides, DecidesAll, TakesOne, TurnsAway, tu
 use Rattle.pp_proxy.specs.Moving.{LeadsOn, Moving, with_state}
 use Rattle.pp_proxy.specs.Taking.{due_log}
 use Rattle.pp_seats.specs.declared.due.Due.{Due}
+use Rattle.pp_state.specs.Astray.{gone_astray}
 use Rattle.pp_state.specs.Ends.{KeepsRest}
 use Rattle.pp_state.specs.declared.state.State.{State}
 use Rattle.pp_store.specs.Kept.{KeptMap}
@@ -101,21 +102,22 @@ all_decided i shelf x mid any found old log before now less so none =
     ends i shelf x mid (with_state found mid) any old log before now so
     (subst (λ (n : ℕ). Decides n shelf mid [] (with_state found mid) false) (sym (one_less 65536 i less)) (decided_over (65536 - (i + 1)) shelf mid found none))
 
-none_more : (shelf : KeptMap) (x : Moving) → Decides 0 shelf x [] x false
+none_more : (shelf : KeptMap) (x : Moving) → Decides 0 shelf x [] (with_state (gone_astray x.desk.state) x) false
 unfolding Decides
 none_more shelf x = (refl, refl, refl)
 
--- or there were as many as may be
+-- or there were as many as may be, and this life goes astray
 pub most_decided : (i : ℕ) (shelf : KeptMap) (x mid : Moving) (any : Bool) (old log : Option Log) (before now : ℕ) → 65536 ≤ i → AreDecidedSoFar i shelf x mid any old log before now
-    → LeadsOn (λ a l b. DecidesAll shelf a l b any) x mid old log before now
+    → LeadsOn (λ a l b. DecidesAll shelf a l b any) x (with_state (gone_astray mid.desk.state) mid) old log before now
 most_decided i shelf x mid any old log before now all so =
-    ends i shelf x mid mid any old log before now so (subst (λ (n : ℕ). Decides n shelf mid [] mid false) (sym (none_left 65536 i all)) (none_more shelf mid))
+    let y : Moving = with_state (gone_astray mid.desk.state) mid in
+    ends i shelf x mid y any old log before now so (subst (λ (n : ℕ). Decides n shelf mid [] y false) (sym (none_left 65536 i all)) (none_more shelf mid))
 
 -- ---- what stays meanwhile
 
 abbrev back : Desk → Desk → Desk
 back old d = record d {
-  state = record d.state { seats = old.state.seats; flow = old.state.flow; cache = old.state.cache; refused = old.state.refused };
+  state = record d.state { seats = old.state.seats; flow = old.state.flow; cache = old.state.cache; refused = old.state.refused; is_astray = old.state.is_astray };
   peers = old.peers;
   turned_away = old.turned_away;
 }

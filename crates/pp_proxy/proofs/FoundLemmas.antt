@@ -15,7 +15,7 @@ pub record Stays (old new : State) : Type 0 where
   pub rest : KeepsRest old new
 
 abbrev back : State → State → State
-back old s = record s { seats = old.seats; flow = old.flow; cache = old.cache; refused = old.refused }
+back old s = record s { seats = old.seats; flow = old.flow; cache = old.cache; refused = old.refused; is_astray = old.is_astray }
 
 all_stays : (old new : State) → new ≡ old → Stays old new
 all_stays old new same = record { numbers = ap (λ (s : State). numbers_of s.seats.items) same; rest = ap (back old) same }

@@ -1,5 +1,5 @@
 -- Rounds, one behind the other, as long as one decided anything.
-use Rattle.std.proofs.Common.{◌≡◌, ◌<◌, ◌≤◌, ◌-◌, ◌+◌, ℕ, zero, suc, Bool, true, false, [], ◌++◌, Option, append_assoc, refl, sym, subst, arith}
+use Rattle.std.proofs.Common.{◌≡◌, ◌<◌, ◌≤◌, ◌-◌, ◌+◌, ℕ, zero, suc, Bool, true, false, [], ◌++◌, Option, ◌||◌, append_assoc, refl, ap, sym, subst, arith}
 use Rattle.std.specs.Prelude.{count_by}
 use Rattle.std.proofs.lemmas.List.{append-nil}
 use Rattle.pp_links.proofs.FailureLemmas.{counted_none, counted_then}
@@ -9,6 +9,7 @@ use Rattle.pp_desk.proofs.ShuttingLemmas.{none_added}
 use Rattle.pp_proxy.proofs.LeadingLemmas.{none_left, one_less}
 use Rattle.pp_proxy.specs.Moving.{LeadsOn, Moving, with_state}
 use Rattle.pp_proxy.specs.Rounds.{GoRounds, GoesRound, Serves}
+use Rattle.pp_state.specs.Astray.{gone_astray_where}
 use Rattle.pp_state.specs.Ends.{numbers_of}
 use Rattle.pp_state.specs.declared.state.State.{State}
 use Rattle.pp_steps.specs.Begins.{BeginsReplies}
@@ -46,9 +47,9 @@ one_more_round i shelf x mid next any again old log new before between now less 
 
 -- ---- and that is all
 
-ends : (i : ℕ) (shelf : KeptMap) (x mid : Moving) (any : Bool) (old log : Option Log) (before now : ℕ) → AreRoundsSoFar i shelf x mid any old log before now → GoRounds (65536 - i) shelf any mid [] mid
-    → LeadsOn (λ a l b. GoRounds 65536 shelf true a l b) x mid old log before now
-ends i shelf x mid any old log before now so none = record { added = so.added; is = subst (λ (l : Log). GoRounds 65536 shelf true x l mid) (append-nil so.added) (so.on [] mid none); told = so.told; counted = so.counted }
+ends : (i : ℕ) (shelf : KeptMap) (x mid y : Moving) (any : Bool) (old log : Option Log) (before now : ℕ) → AreRoundsSoFar i shelf x mid any old log before now → GoRounds (65536 - i) shelf any mid [] y
+    → LeadsOn (λ a l b. GoRounds 65536 shelf true a l b) x y old log before now
+ends i shelf x mid y any old log before now so none = record { added = so.added; is = subst (λ (l : Log). GoRounds 65536 shelf true x l y) (append-nil so.added) (so.on [] y none); told = so.told; counted = so.counted }
 
 rounds_over : (more : ℕ) (shelf : KeptMap) (x : Moving) → GoRounds more shelf false x [] x
 unfolding GoRounds
@@ -59,17 +60,33 @@ rounds_over (suc more) shelf x = (refl, refl)
 pub all_rounds : (i : ℕ) (shelf : KeptMap) (x mid : Moving) (any : Bool) (old log : Option Log) (before now : ℕ) → any ≡ false → AreRoundsSoFar i shelf x mid any old log before now
     → LeadsOn (λ a l b. GoRounds 65536 shelf true a l b) x mid old log before now
 all_rounds i shelf x mid any old log before now none so =
-    ends i shelf x mid any old log before now so (subst (λ (b : Bool). GoRounds (65536 - i) shelf b mid [] mid) (sym none) (rounds_over (65536 - i) shelf mid))
+    ends i shelf x mid mid any old log before now so (subst (λ (b : Bool). GoRounds (65536 - i) shelf b mid [] mid) (sym none) (rounds_over (65536 - i) shelf mid))
 
-none_more : (shelf : KeptMap) (any : Bool) (x : Moving) → GoRounds 0 shelf any x [] x
+or_true : (b : Bool) → (b || true) ≡ true
+or_true true = refl
+or_true false = refl
+
+or_false : (b : Bool) → (b || false) ≡ b
+or_false true = refl
+or_false false = refl
+
+-- where any was decided, this life goes astray
+astray_so : (any : Bool) (s : State) → record s { is_astray = s.is_astray || any } ≡ gone_astray_where any s
+astray_so true s = ap (λ (b : Bool). record s { is_astray = b }) (or_true s.is_astray)
+astray_so false s = ap (λ (b : Bool). record s { is_astray = b }) (or_false s.is_astray)
+
+abbrev more_left : Bool → Moving → Moving
+more_left any x = with_state (record x.desk.state { is_astray = x.desk.state.is_astray || any }) x
+
+none_more : (shelf : KeptMap) (any : Bool) (x : Moving) → GoRounds 0 shelf any x [] (more_left any x)
 unfolding GoRounds
-none_more shelf any x = (refl, refl)
+none_more shelf any x = (refl, ap (λ (s : State). with_state s x) (astray_so any x.desk.state))
 
 -- or there were as many as may be
 pub most_rounds : (i : ℕ) (shelf : KeptMap) (x mid : Moving) (any : Bool) (old log : Option Log) (before now : ℕ) → 65536 ≤ i → AreRoundsSoFar i shelf x mid any old log before now
-    → LeadsOn (λ a l b. GoRounds 65536 shelf true a l b) x mid old log before now
+    → LeadsOn (λ a l b. GoRounds 65536 shelf true a l b) x (with_state (record mid.desk.state { is_astray = mid.desk.state.is_astray || any }) mid) old log before now
 most_rounds i shelf x mid any old log before now all so =
-    ends i shelf x mid any old log before now so (subst (λ (n : ℕ). GoRounds n shelf any mid [] mid) (sym (none_left 65536 i all)) (none_more shelf any mid))
+    ends i shelf x mid (more_left any mid) any old log before now so (subst (λ (n : ℕ). GoRounds n shelf any mid [] (more_left any mid)) (sym (none_left 65536 i all)) (none_more shelf any mid))
 
 -- ---- and replies begin
 

@@ -38,7 +38,7 @@ abbrev begun_seats : Bool → ℕ → State → List Seat
 begun_seats b now s = map (woken_seat now s) (marked_seats b now s.seats.items)
 
 abbrev with_seats : List Seat → State → Parts
-with_seats seats s = record { seats = seats; flow = s.flow; cache = s.cache; refused = s.refused }
+with_seats seats s = record { seats = seats; flow = s.flow; cache = s.cache; refused = s.refused; is_astray = s.is_astray }
 
 abbrev begun : Bool → ℕ → Desk → Sides
 begun b now d = record { parts = with_seats (begun_seats b now d.state) d.state; peers = marked_peers b now d.peers }
@@ -84,14 +84,14 @@ module _ (b : Bool) (now : ℕ) (old mid : Desk) (s : State) (marked : mid.state
 
   -- all else stays, but for the clock
   pub all_else : (new : Desk) → KeepsDesk (record mid { state = s }) new
-      → record new { state = record new.state { seats = old.state.seats; flow = old.state.flow; cache = old.state.cache; refused = old.state.refused; awake = old.state.awake }; peers = old.peers } ≡ record old { state = with_clock now old.state }
+      → record new { state = record new.state { seats = old.state.seats; flow = old.state.flow; cache = old.state.cache; refused = old.state.refused; is_astray = old.state.is_astray; awake = old.state.awake }; peers = old.peers } ≡ record old { state = with_clock now old.state }
   all_else new keeps =
       ap (λ (d : Desk). record d { state = back d.state; peers = old.peers }) keeps
       ∙ ap (λ (t : State). record mid { state = back t; peers = old.peers }) rest
       ∙ ap (λ (d : Desk). record d { state = with_clock now d.state }) kept_back
     where
       back : State → State
-      back t = record t { seats = old.state.seats; flow = old.state.flow; cache = old.state.cache; refused = old.state.refused; awake = old.state.awake }
+      back t = record t { seats = old.state.seats; flow = old.state.flow; cache = old.state.cache; refused = old.state.refused; is_astray = old.state.is_astray; awake = old.state.awake }
 
       kept_back : record mid { state = back mid.state; peers = old.peers } ≡ old
       kept_back = ap (λ (d : Desk). record d { state = back d.state }) kept

@@ -6,6 +6,7 @@ use Rattle.pp_seats.specs.Seats.{new_seat}
 use Rattle.pp_seats.specs.declared.account.Account.{Account}
 use Rattle.pp_seats.specs.declared.account.Account.TheVariants.{Unkept, Due}
 use Rattle.pp_seats.specs.declared.seat.Seat.{Seat}
+use Rattle.pp_state.specs.Astray.{gone_astray}
 use Rattle.pp_state.specs.Ends.{AreInOrder}
 use Rattle.pp_state.specs.Numbers.{with_number}
 use Rattle.pp_world.specs.declared.access.Source.TheVariants.{Hit}
@@ -23,10 +24,10 @@ pub record IsSeated (seat : Seat) (old new : Desk) : Type 0 where
   pub awake : AreInOrder old.state.awake.items → length old.state.awake.items < vec_capacity old.state.awake → new.state.awake.items ≡ with_number (length old.state.seats.items) old.state.awake.items
   pub rest : record new { state = record new.state { seats = old.state.seats; awake = old.state.awake } } ≡ old
 
--- where there is no memory for it, it is turned away
+-- where there is no memory for it, it is turned away, and this life goes astray
 pub record IsTurnedAway (c : ℕ) (old new : Desk) : Type 0 where
   pub seats : new.state.seats.items ≡ old.state.seats.items
-  pub rest : record new { state = record new.state { seats = old.state.seats } } ≡ record old { turned_away = Some c }
+  pub rest : record new { state = record new.state { seats = old.state.seats } } ≡ record old { turned_away = Some c; state = gone_astray old.state }
 
 abbrev pub IsAccepted : ℕ → Desk → Desk → Type 0
 IsAccepted c old new = IsSeated (newcomer c old) old new ⊎ IsTurnedAway c old new

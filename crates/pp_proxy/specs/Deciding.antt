@@ -7,6 +7,7 @@ use Rattle.pp_links.specs.Links.{Link, without}
 use Rattle.pp_proxy.specs.Moving.{Moving, with_state}
 use Rattle.pp_proxy.specs.Taking.{TakesDue, due_log}
 use Rattle.pp_seats.specs.declared.due.Due.{Due}
+use Rattle.pp_state.specs.Astray.{gone_astray}
 use Rattle.pp_state.specs.Ends.{numbers_of}
 use Rattle.pp_state.specs.declared.state.State.{State}
 use Rattle.pp_store.specs.Kept.{KeptMap}
@@ -43,9 +44,9 @@ pub record TakesOne (i : ℕ) (due : Due) (x : Moving) (log : Log) (y : Moving) 
 
 -- ---- what is due first, and then what is due first behind it
 
--- so often at most. Whether anything was
+-- so often at most: where something was due each time, this life goes astray. Whether anything was
 unfoldable pub Decides : ℕ → KeptMap → Moving → Log → Moving → Bool → Type 0
-Decides zero shelf x log y any = (log ≡ []) × (y ≡ x) × (any ≡ false)
+Decides zero shelf x log y any = (log ≡ []) × (y ≡ with_state (gone_astray x.desk.state) x) × (any ≡ false)
 Decides (suc more) shelf x log y any =
     (found : State) × (due : Option (ℕ × Due)) × FirstDue shelf x.desk.state.awake.items x.desk.state found due × (elim due [
       | None ↦ (log ≡ []) × (y ≡ with_state found x) × (any ≡ false)

@@ -11,7 +11,7 @@ use Rattle.pp_world.specs.declared.event.Event.{Event}
 -- what stands no more is taken off the disk, and what is whole is kept there; the desk has its file to lay entries out in
 pub record Keeps (x y : Turning) : Type 0 where
   pub is : KeepsAll (length x.moving.desk.file.items) (keeping x.moving.desk.state x.shelf x.log x.faults) (keeping y.moving.desk.state y.shelf y.log y.faults)
-  pub rest : record y.moving.desk { state = record y.moving.desk.state { cache = x.moving.desk.state.cache; has_lost_draft = x.moving.desk.state.has_lost_draft }; file = x.moving.desk.file } ≡ x.moving.desk
+  pub rest : record y.moving.desk { state = record y.moving.desk.state { cache = x.moving.desk.state.cache; has_lost_draft = x.moving.desk.state.has_lost_draft; is_astray = x.moving.desk.state.is_astray }; file = x.moving.desk.file } ≡ x.moving.desk
   pub long : length y.moving.desk.file.items ≡ length x.moving.desk.file.items
   pub links : y.moving.links ≡ x.moving.links
   pub top : y.moving.top ≡ x.moving.top

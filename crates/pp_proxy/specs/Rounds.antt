@@ -8,7 +8,8 @@ use Rattle.pp_places.specs.Around.{around, moment_of}
 use Rattle.pp_places.specs.Placing.{ArePlaced}
 use Rattle.pp_proxy.specs.Closing.{ClosesOver}
 use Rattle.pp_proxy.specs.Deciding.{DecidesAll}
-use Rattle.pp_proxy.specs.Moving.{Moving, with_desk}
+use Rattle.pp_proxy.specs.Moving.{Moving, with_desk, with_state}
+use Rattle.pp_state.specs.Astray.{gone_astray_where}
 use Rattle.pp_state.specs.Ends.{AreInOrder, numbers_of}
 use Rattle.pp_steps.specs.Begins.{BeginsReplies}
 use Rattle.pp_store.specs.Kept.{KeptMap}
@@ -68,9 +69,9 @@ pub record GoesRound (shelf : KeptMap) (x : Moving) (log : Log) (y : Moving) (an
 
 -- ---- as long as one decided anything
 
--- so often at most
+-- so often at most: where the last decided anything, this life goes astray
 unfoldable pub GoRounds : ℕ → KeptMap → Bool → Moving → Log → Moving → Type 0
-GoRounds zero shelf any x log y = (log ≡ []) × (y ≡ x)
+GoRounds zero shelf any x log y = (log ≡ []) × (y ≡ with_state (gone_astray_where any x.desk.state) x)
 GoRounds (suc more) shelf false x log y = (log ≡ []) × (y ≡ x)
 GoRounds (suc more) shelf true x log y =
     (next : Moving) × (first : Log) × (rest : Log) × (again : Bool) × (log ≡ first ++ rest) × GoesRound shelf x first next again × GoRounds more shelf again next rest y

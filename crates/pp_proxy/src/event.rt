@@ -9,6 +9,7 @@ ghost use Rattle.pp_links.specs.Quiet.{GrowsQuietly};
 ghost use Rattle.pp_peers.specs.Peers.{is_number};
 ghost use Rattle.pp_desk.specs.Closings.{sides};
 ghost use Rattle.pp_proxy.specs.Ticks.{ticked};
+ghost use Rattle.pp_state.specs.Astray.{gone_astray};
 ghost use Rattle.pp_state.specs.Ends.{numbers_of, AreSeated};
 ghost use Rattle.pp_decide.specs.Patience.{is_leap};
 ghost use Rattle.pp_state.specs.Numbers.{places};
@@ -150,12 +151,12 @@ fn lose<W: Wire>(desk: &mut Desk, links: &Links, world: &mut W, k: u64)
     gone(desk, links, world, k, false);
 }
 
-/// A client has come. Where there is no memory for it, it is turned away.
+/// A client has come. Where there is no memory for it, it is turned away, and this life goes astray.
 fn accept(desk: &mut Desk, c: u64)
     ensures { IsAccepted c desk.old desk.new }
 {
     match newcomer(desk, c) {
-        None => desk.turned_away = Some(c),
+        None => refuse(desk, c),
         Some(seat) => take_seat(desk, c, seat),
     }
 }
@@ -178,10 +179,18 @@ fn take_seat(desk: &mut Desk, c: u64, seat: Seat)
 {
     let place = desk.state.seats.len();
     if desk.state.seats.push(seat).is_err() {
-        desk.turned_away = Some(c);
+        refuse(desk, c);
     } else {
         desk.state.rouse(place);
     }
+}
+
+/// There is no memory for it.
+fn refuse(desk: &mut Desk, c: u64)
+    ensures { desk.new ≡ record desk.old { turned_away = Some c; state = gone_astray desk.old.state } }
+{
+    desk.turned_away = Some(c);
+    desk.state.is_astray = true;
 }
 
 /// The clock never goes back. The first tick of a life, and one that leaps, mark all: each waits its patience
@@ -189,7 +198,7 @@ fn take_seat(desk: &mut Desk, c: u64, seat: Seat)
 fn tick(desk: &mut Desk, seconds: u64)
     ensures is { AreSeated desk.old.state → sides desk.new ≡ ticked (max desk.old.state.now seconds) desk.old.state (sides desk.old) }
     ensures awake { length desk.old.state.seats.items ≤ vec_capacity desk.old.state.awake → desk.new.state.awake.items ≡ places (length desk.old.state.seats.items) }
-    ensures rest { record desk.new { state = record desk.new.state { seats = desk.old.state.seats; flow = desk.old.state.flow; cache = desk.old.state.cache; refused = desk.old.state.refused; awake = desk.old.state.awake }; peers = desk.old.peers } ≡ record desk.old { state = record desk.old.state { now = max desk.old.state.now seconds; has_ticked = true; is_ticked = true; has_lost_draft = false } } }
+    ensures rest { record desk.new { state = record desk.new.state { seats = desk.old.state.seats; flow = desk.old.state.flow; cache = desk.old.state.cache; refused = desk.old.state.refused; is_astray = desk.old.state.is_astray; awake = desk.old.state.awake }; peers = desk.old.peers } ≡ record desk.old { state = record desk.old.state { now = max desk.old.state.now seconds; has_ticked = true; is_ticked = true; has_lost_draft = false } } }
 {
     let now = desk.state.now.max(seconds);
     desk.mark_where(is_leap(desk, now), now);

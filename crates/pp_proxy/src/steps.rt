@@ -1,5 +1,5 @@
 // The steps of a turn.
-ghost use Rattle.std.specs.Prelude.{◌≡◌, ◌≤◌, true, [], ◌∷◌, ◌++◌, is_some};
+ghost use Rattle.std.specs.Prelude.{◌≡◌, ◌≤◌, ◌||◌, true, [], ◌∷◌, ◌++◌, is_some};
 ghost use Rattle.pp_links.specs.Links.{IsLinked};
 ghost use Rattle.pp_links.specs.Quiet.{GrowsQuietly};
 ghost use Rattle.pp_shelf.specs.Steady.{GrowsSteadily};
@@ -101,7 +101,7 @@ fn serve<W: Wire>(desk: &mut Desk, links: &mut Links, shelf: &Shelf, world: &mut
     begin_replies(&mut desk.state);
 }
 
-/// As long as one decided anything.
+/// As long as one decided anything. Where the last that may be did, this life goes astray.
 #[tactic(auto, using(pp_links::proofs::QuietLemmas::quiet_then, pp_links::proofs::QuietLemmas::quiet_none))]
 fn go_rounds<W: Wire>(desk: &mut Desk, links: &mut Links, shelf: &Shelf, world: &mut W)
     requires { IsLinked (W.log world.old) (W.top world.old) links.old }
@@ -114,10 +114,18 @@ fn go_rounds<W: Wire>(desk: &mut Desk, links: &mut Links, shelf: &Shelf, world: 
     let mut is_decided = true;
     for _round in 0..ROUNDS {
         if !is_decided {
-            break;
+            return;
         }
         is_decided = go_round(desk, links, shelf, world);
     }
+    note_more(&mut desk.state, is_decided);
+}
+
+/// This life goes astray where there is more to decide.
+fn note_more(state: &mut State, is_decided: bool)
+    ensures { state.new ≡ record state.old { is_astray = state.old.is_astray || is_decided } }
+{
+    state.is_astray = state.is_astray || is_decided;
 }
 
 /// What nobody will see is not read on, asks that bring nothing are given up, followers ask, connections that are
@@ -139,7 +147,7 @@ fn go_round<W: Wire>(desk: &mut Desk, links: &mut Links, shelf: &Shelf, world: &
     decide(desk, links, shelf, world)
 }
 
-/// Takes what is due, one after the other. Whether anything was.
+/// Takes what is due, one after the other. Whether anything was. Where as much was due as may be, this life goes astray.
 #[tactic(auto, using(pp_links::proofs::QuietLemmas::quiet_then, pp_links::proofs::QuietLemmas::quiet_none))]
 fn decide<W: Wire>(desk: &mut Desk, links: &mut Links, shelf: &Shelf, world: &mut W) -> bool
     requires { IsLinked (W.log world.old) (W.top world.old) links.old }
@@ -154,11 +162,12 @@ fn decide<W: Wire>(desk: &mut Desk, links: &mut Links, shelf: &Shelf, world: &mu
     let mut is_any = turn_away(desk, links, world);
     for _due in 0..ROUNDS {
         let Some((i, due)) = first_due(&mut desk.state, shelf) else {
-            break;
+            return is_any;
         };
         is_any = true;
         take_due(desk, links, world, i, due);
     }
+    desk.state.is_astray = true;
     is_any
 }
 

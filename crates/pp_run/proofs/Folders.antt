@@ -1,5 +1,5 @@
 -- What a run comes to, from its folder on.
-use Rattle.std.proofs.Common.{◌≡◌, ◌≤◌, ◌∙◌, ap, refl, sym, subst, ℕ, List, [], ◌∷◌, ◌++◌, Option, Some, None, true, false, append_assoc, inl, inr}
+use Rattle.std.proofs.Common.{◌≡◌, ◌≤◌, ◌∙◌, ap, refl, sym, subst, ℕ, Bool, List, [], ◌∷◌, ◌++◌, Option, Some, None, true, false, append_assoc, inl, inr}
 use Rattle.std.proofs.lemmas.List.{append-nil}
 use Rattle.std.proofs.lemmas.List.Sums.{fold-append}
 use Rattle.pp_world.specs.declared.happening.Happening.TheVariants.{Configured, Listed, Listens, Printed, Rooted}
@@ -17,10 +17,10 @@ use Rattle.pp_store.specs.Held.{Holds}
 use Rattle.pp_store.specs.Kept.{KeptMap}
 use Rattle.pp_store.proofs.Backing.{outlast-others}
 use Rattle.pp_run.specs.Lines.{no_disk_line, no_listener_line, no_memory_line}
-use Rattle.pp_run.specs.Exits.{HasNoDisk, IsOpening, ListensAndGoes, ListensAs, MayNot, OpensAnd, OpensOn, WantsMemory}
+use Rattle.pp_run.specs.Exits.{HasNoDisk, IsOpening, IsServedAs, ListensAndGoes, ListensAs, MayNot, OpensAnd, OpensOn, WantsMemory, served_as}
 use Rattle.pp_run.specs.Serving.{GoesUpTo}
 use Rattle.pp_run.specs.declared.ending.Exit.{Exit}
-use Rattle.pp_run.specs.declared.ending.Exit.TheVariants.{Served, Usage, NoMemory, NoDisk, NoListener, NoConfig}
+use Rattle.pp_run.specs.declared.ending.Exit.TheVariants.{Served, ServedAstray, Usage, NoMemory, NoDisk, NoListener, NoConfig}
 
 -- a life that read its configuration has changed nothing
 fresh_configured : (files : Files) (k : Log) (name : List ℕ) (text : Option (List ℕ)) → IsFresh files k → IsFresh files (k ++ Configured name text ∷ [])
@@ -77,6 +77,15 @@ may_not port call printed = record {
       );
 }
 
+-- whether the proxy went astray meanwhile
+pub served_listens : (astray : Bool) (port most_turns before now : ℕ) (old new : Option Log) → GrowsBy [] (ListensAndGoes port most_turns) old new → ListensAs port most_turns (served_as astray) old new before now
+served_listens true port most_turns before now old new goes = goes
+served_listens false port most_turns before now old new goes = goes
+
+pub served_is : (astray : Bool) → IsServedAs (served_as astray) astray
+served_is true = refl
+served_is false = refl
+
 -- ---- the folder
 
 opens_and : {old mid new : Option Log} (root : List ℕ) (P : Log → Type 0) → GrowsBy (Rooted root ∷ Listed true ∷ []) IsOnDisk old mid → GrowsBy [] P mid new → GrowsBy [] (OpensAnd root P) old new
@@ -98,6 +107,7 @@ opens_and root P opened rest = record {
 pub opens_then : {old mid : Option Log} (new : Option Log) (root : List ℕ) (port most_turns : ℕ) (exit : Exit) (before between now : ℕ)
     → GrowsBy (Rooted root ∷ Listed true ∷ []) IsOnDisk old mid → before ≤ between → ListensAs port most_turns exit mid new between now → OpensOn [] root port most_turns exit old new before now
 opens_then new root port most_turns Served before between now opened more listens = opens_and root _ opened listens
+opens_then new root port most_turns ServedAstray before between now opened more listens = opens_and root _ opened listens
 opens_then new root port most_turns NoListener before between now opened more listens =
     record { rises = rises_later before between now more listens.1; told = opens_and root _ opened listens.0 }
 opens_then new root port most_turns NoMemory before between now opened more listens = absurd listens

@@ -10,7 +10,7 @@ use Rattle.pp_conf.specs.Words.{Serves, ShowsDemo, file_of, has_reading, reading
 use Rattle.pp_run.specs.Exits.{EndsAs, IsUnread, JudgesWords, OpensOn, ShowsAs, StartsAs, asked_for}
 use Rattle.pp_run.proofs.Judging.{asks, judged, read, reads}
 use Rattle.pp_run.specs.declared.ending.Exit.{Exit}
-use Rattle.pp_run.specs.declared.ending.Exit.TheVariants.{Served, Usage, NoMemory, NoDisk, NoListener, NoConfig}
+use Rattle.pp_run.specs.declared.ending.Exit.TheVariants.{Served, ServedAstray, Usage, NoMemory, NoDisk, NoListener, NoConfig}
 
 -- what came behind a call is also behind all that the call appended
 pub grows_later : {old mid new : Option Log} (P : Log → Type 0) (asked first : Log) → AppendsAll old mid (λ l. asked) → GrowsBy first P mid new → GrowsBy (asked ++ first) P old new
@@ -37,6 +37,7 @@ grows_behind P asked first rest = record {
 opens_later : {old mid : Option Log} (new : Option Log) (asked : Log) (root : List ℕ) (port most_turns : ℕ) (exit : Exit) (before between now : ℕ)
     → AppendsAll old mid (λ l. asked) → before ≤ between → OpensOn [] root port most_turns exit mid new between now → OpensOn asked root port most_turns exit old new before now
 opens_later new asked root port most_turns Served before between now first more opens = grows_behind _ asked first opens
+opens_later new asked root port most_turns ServedAstray before between now first more opens = grows_behind _ asked first opens
 opens_later new asked root port most_turns NoListener before between now first more opens =
     record { rises = rises_later before between now more opens.rises; told = grows_behind _ asked first opens.told }
 opens_later new asked root port most_turns NoDisk before between now first more opens =
@@ -51,6 +52,7 @@ starts_later : {old mid : Option Log} (new : Option Log) (asked : Log) (words : 
 starts_later new asked words text Served before between now first more (inl (c, says, opens)) = inl (c, says, opens_later new asked c.root c.port c.max_turns Served before between now first more opens)
 starts_later new asked words text Served before between now first more (inr shown) =
     inr (record { seed = shown.seed; says = shown.says; summary = shown.summary; told = appends_then (λ l. asked) _ first shown.told })
+starts_later new asked words text ServedAstray before between now first more (c, says, opens) = (c, says, opens_later new asked c.root c.port c.max_turns ServedAstray before between now first more opens)
 starts_later new asked words text Usage before between now first more start = appends_then (λ l. asked) _ first start
 starts_later new asked words text NoMemory before between now first more (inl told) = inl (appends_then (λ l. asked) _ first told)
 starts_later new asked words text NoMemory before between now first more (inr (c, says, opens)) = inr (c, says, opens_later new asked c.root c.port c.max_turns NoMemory before between now first more opens)
@@ -63,6 +65,7 @@ ends_by : (old new : Option Log) (words : List (List ℕ)) (text : List ℕ) (ex
     → has_reading words ≡ true → true ≡ is_some (file_of words) → JudgesWords words exit
     → StartsAs (asked_for (file_of words) (Some text)) words (Some text) exit old new before now → EndsAs words exit old new before now
 ends_by old new words text Served before now reads named judges start = (Some text, named, start)
+ends_by old new words text ServedAstray before now reads named judges start = (Some text, named, start)
 ends_by old new words text NoListener before now reads named judges start = (Some text, named, start)
 ends_by old new words text NoConfig before now reads named judges start = inr (Some text, named, start)
 ends_by old new words text NoMemory before now reads named judges start = inr (Some text, named, start)
@@ -93,6 +96,7 @@ unread {old} {mid} words file before between now named first rose printed more =
 pub starts_with : (old new : Option Log) (words : List (List ℕ)) (text : Option (List ℕ)) (c : Settings) (exit : Exit) (before now : ℕ) → reading_of words text ≡ Ok (Serves c)
     → OpensOn [] c.root c.port c.max_turns exit old new before now → StartsAs [] words text exit old new before now
 starts_with old new words text c Served before now says opens = inl (c, says, opens)
+starts_with old new words text c ServedAstray before now says opens = (c, says, opens)
 starts_with old new words text c NoListener before now says opens = (c, says, opens)
 starts_with old new words text c NoDisk before now says opens = (c, says, opens)
 starts_with old new words text c NoMemory before now says opens = inr (c, says, opens)
@@ -102,6 +106,7 @@ starts_with old new words text c NoConfig before now says opens = absurd opens
 pub judges_with : (old new : Option Log) (words : List (List ℕ)) (text : Option (List ℕ)) (c : Settings) (exit : Exit) (before now : ℕ) → reading_of words text ≡ Ok (Serves c)
     → OpensOn [] c.root c.port c.max_turns exit old new before now → JudgesWords words exit
 judges_with old new words text c Served before now says opens = read words text ∙ ap reads says
+judges_with old new words text c ServedAstray before now says opens = judged words text ∙ ap asks says
 judges_with old new words text c NoListener before now says opens = judged words text ∙ ap asks says
 judges_with old new words text c NoDisk before now says opens = judged words text ∙ ap asks says
 judges_with old new words text c NoMemory before now says opens = tt
@@ -112,6 +117,7 @@ judges_with old new words text c NoConfig before now says opens = absurd opens
 pub starts_shown : (old new : Option Log) (words : List (List ℕ)) (text : Option (List ℕ)) (seed : ℕ) (exit : Exit) (before now : ℕ) → reading_of words text ≡ Ok (ShowsDemo seed)
     → ShowsAs exit old new → StartsAs [] words text exit old new before now
 starts_shown old new words text seed Served before now says (summary, told) = inr (record { seed = seed; says = says; summary = summary; told = told })
+starts_shown old new words text seed ServedAstray before now says shows = absurd shows
 starts_shown old new words text seed NoMemory before now says told = inl told
 starts_shown old new words text seed NoListener before now says shows = absurd shows
 starts_shown old new words text seed NoDisk before now says shows = absurd shows
@@ -120,6 +126,7 @@ starts_shown old new words text seed NoConfig before now says shows = absurd sho
 
 pub judges_shown : (old new : Option Log) (words : List (List ℕ)) (exit : Exit) → has_reading words ≡ true → ShowsAs exit old new → JudgesWords words exit
 judges_shown old new words Served read shows = read
+judges_shown old new words ServedAstray read shows = absurd shows
 judges_shown old new words NoMemory read shows = tt
 judges_shown old new words NoListener read shows = absurd shows
 judges_shown old new words NoDisk read shows = absurd shows

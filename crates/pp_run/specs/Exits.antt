@@ -15,11 +15,12 @@ use Rattle.pp_shelf.specs.Opening.{MayBeListed}
 use Rattle.pp_run.specs.Serving.{GoesUpTo}
 use Rattle.pp_run.specs.Lines.{fault_line, no_disk_line, no_listener_line, no_memory_line, unread_line, usage_line}
 use Rattle.pp_run.specs.declared.ending.Exit.{Exit}
-use Rattle.pp_run.specs.declared.ending.Exit.TheVariants.{Served, Usage, NoMemory, NoDisk, NoListener, NoConfig}
+use Rattle.pp_run.specs.declared.ending.Exit.TheVariants.{Served, ServedAstray, Usage, NoMemory, NoDisk, NoListener, NoConfig}
 
 -- ours: the statuses of the process
 abbrev pub status_of : Exit → ℕ
 status_of Served = 0
+status_of ServedAstray = 0
 status_of Usage = 2
 status_of NoMemory = 3
 status_of NoDisk = 4
@@ -43,6 +44,7 @@ abbrev pub JudgesWords : List (List ℕ) → Exit → Type 0
 JudgesWords words Usage = has_reading words ≡ false
 JudgesWords words NoMemory = ⊤
 JudgesWords words Served = has_reading words ≡ true
+JudgesWords words ServedAstray = asks_to_serve words ≡ true
 JudgesWords words NoDisk = asks_to_serve words ≡ true
 JudgesWords words NoListener = asks_to_serve words ≡ true
 JudgesWords words NoConfig = asks_to_serve words ≡ true
@@ -64,6 +66,20 @@ OpensAnd root P log = (opening rest : Log) × IsOpening root opening × (log ≡
 abbrev pub ListensAndGoes : ℕ → ℕ → Log → Type 0
 ListensAndGoes port most_turns log = (turns : Log) × (log ≡ Listens port true ∷ turns) × GoesUpTo most_turns turns
 
+-- whether the proxy went astray meanwhile: memory was refused for what the law knows, or a loop ended at its bound
+abbrev pub served_as : Bool → Exit
+served_as false = Served
+served_as true = ServedAstray
+
+abbrev pub IsServedAs : Exit → Bool → Type 0
+IsServedAs Served astray = astray ≡ false
+IsServedAs ServedAstray astray = astray ≡ true
+IsServedAs NoListener astray = ⊤
+IsServedAs NoMemory astray = ⊤
+IsServedAs Usage astray = ⊤
+IsServedAs NoDisk astray = ⊤
+IsServedAs NoConfig astray = ⊤
+
 -- it may not listen on this port, and nothing follows but the line
 abbrev pub MayNot : ℕ → Log → Type 0
 MayNot port log = log ≡ Listens port false ∷ Printed (no_listener_line port) ∷ []
@@ -71,6 +87,7 @@ MayNot port log = log ≡ Listens port false ∷ Printed (no_listener_line port)
 -- how a run ends that has its folder
 abbrev pub ListensAs : ℕ → ℕ → Exit → Option Log → Option Log → ℕ → ℕ → Type 0
 ListensAs port most_turns Served old new before now = GrowsBy [] (ListensAndGoes port most_turns) old new
+ListensAs port most_turns ServedAstray old new before now = GrowsBy [] (ListensAndGoes port most_turns) old new
 ListensAs port most_turns NoListener old new before now = GrowsBy [] (MayNot port) old new × Rises new before now
 ListensAs port most_turns NoMemory old new before now = ⊥
 ListensAs port most_turns Usage old new before now = ⊥
@@ -99,6 +116,7 @@ WantsMemory asked root old new = GrowsBy asked (λ log. (opening : Log) × (log 
 -- how a run ends that has its settings
 abbrev pub OpensOn : Log → List ℕ → ℕ → ℕ → Exit → Option Log → Option Log → ℕ → ℕ → Type 0
 OpensOn asked root port most_turns Served old new before now = ServesOn asked root port most_turns old new
+OpensOn asked root port most_turns ServedAstray old new before now = ServesOn asked root port most_turns old new
 OpensOn asked root port most_turns NoListener old new before now = MayNotListen asked root port old new before now
 OpensOn asked root port most_turns NoDisk old new before now = HasNoDisk asked root old new before now
 OpensOn asked root port most_turns NoMemory old new before now = WantsMemory asked root old new
@@ -131,6 +149,7 @@ pub record IsShown (asked : Log) (words : List (List ℕ)) (text : Option (List 
 -- how a demo ends
 abbrev pub ShowsAs : Exit → Option Log → Option Log → Type 0
 ShowsAs Served old new = (summary : Summary) × AppendsAll old new (λ l. Printed (summary_text summary) ∷ [])
+ShowsAs ServedAstray old new = ⊥
 ShowsAs NoMemory old new = AppendsAll old new (λ l. Printed no_memory_line ∷ [])
 ShowsAs Usage old new = ⊥
 ShowsAs NoDisk old new = ⊥
@@ -139,6 +158,7 @@ ShowsAs NoConfig old new = ⊥
 
 abbrev pub StartsAs : Log → List (List ℕ) → Option (List ℕ) → Exit → Option Log → Option Log → ℕ → ℕ → Type 0
 StartsAs asked words text Served old new before now = WithSettings asked words text Served old new before now ⊎ IsShown asked words text old new
+StartsAs asked words text ServedAstray old new before now = WithSettings asked words text ServedAstray old new before now
 StartsAs asked words text NoListener old new before now = WithSettings asked words text NoListener old new before now
 StartsAs asked words text NoDisk old new before now = WithSettings asked words text NoDisk old new before now
 StartsAs asked words text NoConfig old new before now = (fault : ConfFault) × (exit_of fault ≡ NoConfig) × IsRefused asked words text fault old new
@@ -150,9 +170,10 @@ abbrev pub StartsWith : List (List ℕ) → Exit → Option Log → Option Log �
 StartsWith words exit old new before now =
     (text : Option (List ℕ)) × (is_some text ≡ is_some (file_of words)) × StartsAs (asked_for (file_of words) text) words text exit old new before now
 
--- ours: each exit but Served prints its one line, and nothing happens behind it; Served prints nothing but for the demo
+-- ours: each exit but those of serving prints its one line, and nothing happens behind it; they print nothing but for the demo
 abbrev pub EndsAs : List (List ℕ) → Exit → Option Log → Option Log → ℕ → ℕ → Type 0
 EndsAs words Served old new before now = StartsWith words Served old new before now
+EndsAs words ServedAstray old new before now = StartsWith words ServedAstray old new before now
 EndsAs words NoListener old new before now = StartsWith words NoListener old new before now
 EndsAs words NoConfig old new before now = IsUnread words old new before now ⊎ StartsWith words NoConfig old new before now
 EndsAs words NoMemory old new before now = AppendsAll old new (λ l. Printed no_memory_line ∷ []) ⊎ StartsWith words NoMemory old new before now

@@ -7,6 +7,8 @@ ghost use Rattle.pp_run.specs.Exits.{status_of};
 pub enum Exit {
     /// It served until it was stopped, or for the most turns that its settings allow.
     Served,
+    /// The same; but memory was refused for what its promise on the log rests on, or a loop ended at its bound.
+    ServedAstray,
     /// Its words are not understood.
     Usage,
     /// Memory was asked for and not given.
@@ -25,7 +27,7 @@ impl Exit {
         ensures { result ≡ status_of self }
     {
         match self {
-            Exit::Served => 0,
+            Exit::Served | Exit::ServedAstray => 0,
             Exit::Usage => 2,
             Exit::NoMemory => 3,
             Exit::NoDisk => 4,

@@ -7,8 +7,9 @@
 //! Words with a seed show the demo instead: the program serves in five lives of a world in memory, by the scripts of `pp_demo`, and
 //! prints what their log has, in numbers.
 //!
-//! To the layer above: each exit but `Served` prints its one line, and nothing else is ever printed but the demo's five;
-//! `specs/Exits.antt` says of each exit when it comes and what a told log gained by it.
+//! To the layer above: each exit but `Served` and `ServedAstray` prints its one line, and nothing else is ever printed but the demo's
+//! five; `specs/Exits.antt` says of each exit when it comes and what a told log gained by it. `Served` says besides that memory was
+//! never refused for what the law knows of the turns, and that no loop of a turn ended at its bound.
 //!
 //! What words and text say is for `pp_conf`, and what a turn does is for `pp_proxy`.
 #![tactic(auto)]

@@ -4,7 +4,7 @@ ghost use Rattle.pp_conf.specs.Logs.{log_place, shown_place};
 ghost use Rattle.pp_links.specs.Quiet.{GrowsBy};
 ghost use Rattle.pp_desk.specs.Anything.{anything};
 ghost use Rattle.pp_recover.specs.Opening.{IsFresh};
-ghost use Rattle.pp_run.specs.Exits.{ListensAs, OpensOn};
+ghost use Rattle.pp_run.specs.Exits.{IsServedAs, ListensAs, OpensOn, served_as};
 ghost use Rattle.pp_proxy.specs.Awaiting.{standing};
 ghost use Rattle.pp_run.specs.Serving.{GoesUpTo, TurnsUpTo};
 ghost use Rattle.pp_store.specs.Held.{Holds};
@@ -79,16 +79,28 @@ fn listen<W: World>(
     requires links { proxy.old.links ≡ [] }
     requires holds { Told (W.log world.old) (Holds anything shelf.old) }
     ensures told { ListensAs door.now.port most_turns result (W.log world.old) (W.log world.new) (W.faults world.old) (W.faults world.new) }
+    ensures astray { IsServedAs result proxy.new.desk.state.is_astray }
 {
     match world.listen(door) {
         Ok(()) => {
             serve(proxy, shelf, most_turns, world);
-            Exit::Served
+            served(proxy)
         }
         Err(_) => {
             world.print(no_listener_line(door.port).as_slice());
             Exit::NoListener
         }
+    }
+}
+
+/// Whether it went astray.
+fn served(proxy: &Proxy) -> Exit
+    ensures { result ≡ served_as proxy.now.desk.state.is_astray }
+{
+    if proxy.is_astray() {
+        Exit::ServedAstray
+    } else {
+        Exit::Served
     }
 }
 

@@ -81,7 +81,12 @@ fn live(alloc: Global, conf: &Conf, world: &mut MemWorld) -> Result<(), OutOfMem
 {
     match open(alloc, conf, world) {
         Exit::NoMemory => Err(OutOfMemory),
-        Exit::Served | Exit::Usage | Exit::NoDisk | Exit::NoListener | Exit::NoConfig => Ok(()),
+        Exit::Served
+        | Exit::ServedAstray
+        | Exit::Usage
+        | Exit::NoDisk
+        | Exit::NoListener
+        | Exit::NoConfig => Ok(()),
     }
 }
 

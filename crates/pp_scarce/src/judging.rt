@@ -46,7 +46,7 @@ impl Outcome {
 pub(crate) fn played(alloc: Global) -> Result<Outcome, OutOfMemory> {
     let life = first_life(alloc, ALONE, Pace::Whole, COURSE, &[])?;
     match life.exit {
-        Exit::Served => served(&life),
+        Exit::Served | Exit::ServedAstray => served(&life),
         Exit::NoMemory => ended(alloc, &life),
         Exit::Usage | Exit::NoDisk | Exit::NoListener | Exit::NoConfig => Ok(Outcome::Wrong),
     }

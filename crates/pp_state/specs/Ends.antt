@@ -44,20 +44,22 @@ place_of n (m ∷ ms) = if m == n then Some 0 else option_map suc (place_of n ms
 abbrev pub changed_at : ℕ → (Seat → Seat) → List Seat → List Seat
 changed_at i f seats = elim (slice_get seats i) [ None ↦ seats | Some seat ↦ slice_set seats i (f seat) ]
 
--- ---- what changes where exchanges end: the clients, the exchanges, what is in memory, and the keys of rows that it was refused for
+-- ---- what changes where exchanges end: the clients, the exchanges, what is in memory, the keys of rows that it was refused for, and
+-- whether it was refused so in this life
 
 pub record Parts : Type 0 where
   pub seats : List Seat
   pub flow : Exchanges
   pub cache : Memory
   pub refused : List (List ℕ)
+  pub is_astray : Bool
 
 abbrev pub parts : State → Parts
-parts s = record { seats = s.seats.items; flow = s.flow; cache = s.cache; refused = s.refused }
+parts s = record { seats = s.seats.items; flow = s.flow; cache = s.cache; refused = s.refused; is_astray = s.is_astray }
 
 -- all else stays
 abbrev pub KeepsRest : State → State → Type 0
-KeepsRest old new = record new { seats = old.seats; flow = old.flow; cache = old.cache; refused = old.refused } ≡ old
+KeepsRest old new = record new { seats = old.seats; flow = old.flow; cache = old.cache; refused = old.refused; is_astray = old.is_astray } ≡ old
 
 abbrev pub AreSeated : State → Type 0
 AreSeated s = AreInOrder (numbers_of s.seats.items)

@@ -1,9 +1,11 @@
--- All of a reply was said (RFC 2616, section 6).
-use Rattle.std.specs.Prelude.{Bool, true, false, ◌&&◌, not, Option, Some, None}
+-- All of a reply was said, and a request was read (RFC 2616, sections 5 and 6).
+use Rattle.std.specs.Prelude.{ℕ, Bool, true, false, ◌==◌, ◌&&◌, not, is_some, slice_get, List, Option, Some, None}
 use Rattle.pp_client.specs.Clients.{said_by}
 use Rattle.pp_client.specs.Replies.{has_begun as is_said_to}
 use Rattle.pp_seats.specs.Courses.{has_begun}
+use Rattle.pp_seats.specs.Heads.{asked_in}
 use Rattle.pp_seats.specs.Seats.{passed_in}
+use Rattle.pp_seats.specs.declared.front.Asked.{Asked}
 use Rattle.pp_seats.specs.declared.seat.Passed.{Passed}
 use Rattle.pp_seats.specs.declared.seat.PassedEnd.{PassedEnd}
 use Rattle.pp_seats.specs.declared.seat.PassedEnd.TheVariants.{Coming, Whole, Short}
@@ -36,3 +38,20 @@ is_said seat = is_under_way seat && not (is_said_to (with_end seat).client.reply
 abbrev pub is_said_in : Option Seat → Bool
 is_said_in None = false
 is_said_in (Some seat) = is_said seat
+
+-- ---- memory was refused for the key of a request: it has none, and is refused with 500
+
+abbrev pub is_without_memory : Option ℕ → Bool
+is_without_memory None = false
+is_without_memory (Some status) = status == 500
+
+abbrev pub lacks_key_in : Option Asked → Bool
+lacks_key_in None = false
+lacks_key_in (Some a) = not (is_some a.key) && is_without_memory a.refusal
+
+abbrev pub lacks_key : Seat → Bool
+lacks_key seat = lacks_key_in (asked_in seat.front)
+
+-- of the client at this place
+abbrev pub lacks_key_at : ℕ → List Seat → Bool
+lacks_key_at i seats = elim (slice_get seats i) [ None ↦ false | Some seat ↦ lacks_key seat ]

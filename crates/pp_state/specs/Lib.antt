@@ -1,5 +1,6 @@
 pub mod Accounts
 pub mod Asking
+pub mod Astray
 pub mod Bodies
 pub mod Bringing
 pub mod Ends

@@ -1,6 +1,6 @@
 // Step 1: a request that came, and a reply that was said (RFC 2616, sections 5 and 6).
-ghost use Rattle.std.specs.Prelude.{◌≡◌, slice_get};
-ghost use Rattle.pp_state.specs.Hearing.{is_passed_whole, is_said, is_said_in, is_whole, with_end};
+ghost use Rattle.std.specs.Prelude.{◌≡◌, ◌||◌, slice_get};
+ghost use Rattle.pp_state.specs.Hearing.{is_passed_whole, is_said, is_said_in, is_whole, is_without_memory, lacks_key, lacks_key_at, with_end};
 ghost use Rattle.pp_state.specs.Places.{IsChangedAt};
 ghost use Rattle.pp_state.specs.Ends.{changed_at, numbers_of};
 ghost use Rattle.pp_seats.specs.Seats.{IsRead, passed_in};
@@ -9,9 +9,19 @@ use crate::state::State;
 use pp_seats::{PassedEnd, Seat};
 
 impl State {
-    /// What the client sent is read as a request, where there is none.
-    #[tactic(auto, using(crate::proofs::PlacesLemmas::same_numbers))]
+    /// What the client sent is read as a request, where there is none. Where memory was refused for its key, this life goes astray.
     pub fn look(&mut self, i: usize)
+        ensures is { IsChangedAt IsRead i self.old.seats.items self.new.seats.items }
+        ensures numbers { numbers_of self.new.seats.items ≡ numbers_of self.old.seats.items }
+        ensures astray { self.new.is_astray ≡ (self.old.is_astray || lacks_key_at i self.new.seats.items) }
+        ensures rest { record self.new { seats = self.old.seats; is_astray = self.old.is_astray } ≡ self.old }
+    {
+        self.read(i);
+        self.is_astray = self.is_astray || lacks_key_at(&self.seats, i);
+    }
+
+    #[tactic(auto, using(crate::proofs::PlacesLemmas::same_numbers))]
+    fn read(&mut self, i: usize)
         ensures is { IsChangedAt IsRead i self.old.seats.items self.new.seats.items }
         ensures numbers { numbers_of self.new.seats.items ≡ numbers_of self.old.seats.items }
         ensures rest { record self.new { seats = self.old.seats } ≡ self.old }
@@ -33,6 +43,34 @@ impl State {
             None => false,
             Some(seat) => is_said(seat),
         }
+    }
+}
+
+/// Memory was refused for the key of the request of the client at this place.
+fn lacks_key_at(seats: &[Seat], i: usize) -> bool
+    ensures { result ≡ lacks_key_at i seats.now }
+{
+    match seats.get(i) {
+        None => false,
+        Some(seat) => lacks_key(seat),
+    }
+}
+
+fn lacks_key(seat: &Seat) -> bool
+    ensures { result ≡ lacks_key seat.now }
+{
+    match seat.front.asked() {
+        None => false,
+        Some(asked) => asked.key.is_none() && is_without_memory(asked.refusal),
+    }
+}
+
+fn is_without_memory(refusal: Option<u16>) -> bool
+    ensures { result ≡ is_without_memory refusal }
+{
+    match refusal {
+        None => false,
+        Some(status) => status == 500,
     }
 }
 

@@ -56,6 +56,8 @@ pub struct State {
     pub forgotten: Noted,
     /// Keys of rows that memory was refused for.
     pub refused: Noted,
+    /// Memory was refused for what the law knows, or a loop ended at its bound: from then on nothing is said of the log.
+    pub is_astray: bool,
 }
 
 impl State {

@@ -1,5 +1,5 @@
 -- What one read of a client brings, and what one write says to it (RFC 2616, sections 5 and 6).
-use Rattle.std.specs.Prelude.{◌≡◌, ℕ, ◌≤◌, ◌+◌, ◌-◌, ◌/◌, Bool, true, false, ◌&&◌, nat_lt, min, IfOk, IfSome, List, [], is_some, length, slice_get, take, Option, Some, None, Ok, Err}
+use Rattle.std.specs.Prelude.{◌≡◌, ℕ, ◌≤◌, ◌+◌, ◌-◌, ◌/◌, Bool, true, false, ◌&&◌, ◌||◌, nat_lt, min, IfOk, IfSome, List, [], is_some, length, slice_get, take, Option, Some, None, Ok, Err}
 use Rattle.pp_cache.specs.Memory.{Memory}
 use Rattle.pp_cache.specs.Uses.{used_run}
 use Rattle.pp_client.specs.Replies.{Reply, at_hand, left_next, next_byte}
@@ -14,6 +14,7 @@ use Rattle.pp_seats.specs.Seats.{IsRead, told_by}
 use Rattle.pp_seats.specs.declared.seat.Next.{Next}
 use Rattle.pp_seats.specs.declared.seat.Seat.{Seat}
 use Rattle.pp_state.specs.Ends.{Parts, changed_at}
+use Rattle.pp_state.specs.Hearing.{lacks_key_at}
 use Rattle.pp_state.specs.Places.{IsChangedAt}
 use Rattle.pp_world.specs.Log.{AppendsAll, Log}
 use Rattle.pp_world.specs.Wire.{IsWithin}
@@ -48,10 +49,16 @@ LooksAtWhere false i old new = new ≡ old
 abbrev pub IsFoundAt : Found → List ℕ → ℕ → List Seat → List Seat → Type 0
 IsFoundAt found front i old new = LooksAtWhere (brings found) i (changed_at i (heard_by found front) old) new
 
--- all but the clients stays
+-- where memory was refused for the key of a request that was read, this life goes astray
+abbrev pub astray_behind : Bool → Bool → ℕ → List Seat → Bool
+astray_behind true astray i seats = astray || lacks_key_at i seats
+astray_behind false astray i seats = astray
+
+-- all but the clients stays, and whether it went astray
 pub record TakesIn (found : Found) (front : List ℕ) (i : ℕ) (old new : Sides) : Type 0 where
   pub seats : IsFoundAt found front i old.parts.seats new.parts.seats
-  pub rest : record new { parts = record new.parts { seats = old.parts.seats } } ≡ old
+  pub astray : new.parts.is_astray ≡ astray_behind (brings found) old.parts.is_astray i new.parts.seats
+  pub rest : record new { parts = record new.parts { seats = old.parts.seats; is_astray = old.parts.is_astray } } ≡ old
 
 -- of the client at this place, with so much room to read into
 pub record IsReadFrom (most i : ℕ) (seat : Seat) (links : List Link) (x y : Sides) (old new : Option Log) : Type 0 where

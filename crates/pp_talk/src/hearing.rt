@@ -6,7 +6,7 @@ ghost use Rattle.pp_client.specs.Requests.{room_of};
 ghost use Rattle.pp_links.specs.Links.{IsLinked};
 ghost use Rattle.pp_links.specs.Quiet.{GrowsQuietly};
 ghost use Rattle.pp_desk.specs.Closings.{KeepsDesk, sides};
-ghost use Rattle.pp_talk.specs.Talking.{Hears, IsFoundAt, IsReadAt, IsSaidTo, IsSaidWithin, IsWrittenAt, LooksAtWhere, Says, brings, heard_by, offered, said_as, told_at, used_chunks};
+ghost use Rattle.pp_talk.specs.Talking.{Hears, IsFoundAt, IsReadAt, IsSaidTo, IsSaidWithin, IsWrittenAt, LooksAtWhere, Says, astray_behind, brings, heard_by, offered, said_as, told_at, used_chunks};
 ghost use Rattle.pp_seats.specs.Said.{used_by};
 ghost use Rattle.pp_seats.specs.Seats.{told_by};
 ghost use Rattle.pp_state.specs.Ends.{changed_at, numbers_of, parts, AreSeated, KeepsRest};
@@ -43,7 +43,7 @@ fn take_in<W: Wire>(desk: &mut Desk, links: &Links, world: &mut W, i: usize)
     ensures quiet { GrowsQuietly (W.log world.old) (W.log world.new) }
     ensures is { IsReadAt (slice_get desk.old.state.seats.items i) (length desk.old.buffer.items) i links.now (sides desk.old) (sides desk.new) (W.log world.old) (W.log world.new) }
     ensures numbers { numbers_of desk.new.state.seats.items ≡ numbers_of desk.old.state.seats.items }
-    ensures rest { record desk.new { state = record desk.new.state { seats = desk.old.state.seats }; buffer = desk.old.buffer } ≡ desk.old }
+    ensures rest { record desk.new { state = record desk.new.state { seats = desk.old.state.seats; is_astray = desk.old.state.is_astray }; buffer = desk.old.buffer } ≡ desk.old }
     ensures top { W.top world.new ≡ W.top world.old }
     ensures faults { W.faults world.old ≤ W.faults world.new }
 {
@@ -111,7 +111,8 @@ fn take_found_at(state: &mut State, i: usize, found: &Option<Result<Got, WireFau
     requires within { IfSome found.now (λ r. IfOk r (IsWithin (length front.now))) }
     ensures is { IsFoundAt found.now front.now i state.old.seats.items state.new.seats.items }
     ensures numbers { numbers_of state.new.seats.items ≡ numbers_of state.old.seats.items }
-    ensures rest { record state.new { seats = state.old.seats } ≡ state.old }
+    ensures astray { state.new.is_astray ≡ astray_behind (brings found.now) state.old.is_astray i state.new.seats.items }
+    ensures rest { record state.new { seats = state.old.seats; is_astray = state.old.is_astray } ≡ state.old }
 {
     note_found(&mut state.seats, i, found, front);
     look_where(state, brings(found), i);
@@ -155,7 +156,8 @@ fn brings(found: &Option<Result<Got, WireFault>>) -> bool
 fn look_where(state: &mut State, brings: bool, i: usize)
     ensures is { LooksAtWhere brings i state.old.seats.items state.new.seats.items }
     ensures numbers { numbers_of state.new.seats.items ≡ numbers_of state.old.seats.items }
-    ensures rest { record state.new { seats = state.old.seats } ≡ state.old }
+    ensures astray { state.new.is_astray ≡ astray_behind brings state.old.is_astray i state.new.seats.items }
+    ensures rest { record state.new { seats = state.old.seats; is_astray = state.old.is_astray } ≡ state.old }
 {
     if brings {
         state.look(i);

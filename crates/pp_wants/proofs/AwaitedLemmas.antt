@@ -24,4 +24,4 @@ same_parts s t seats rest =
     ap (λ (xs : List Seat). with_seats xs t) seats ∙ ap (λ (u : State). with_seats s.seats.items u) rest
   where
     with_seats : List Seat → State → Parts
-    with_seats xs u = record { seats = xs; flow = u.flow; cache = u.cache; refused = u.refused }
+    with_seats xs u = record { seats = xs; flow = u.flow; cache = u.cache; refused = u.refused; is_astray = u.is_astray }

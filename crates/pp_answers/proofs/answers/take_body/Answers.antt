@@ -19,4 +19,4 @@ returns-clause-numbers c = ap (λ (s : State). numbers_of s.seats.items) c.note_
 pub returns-clause-rest : goal.returns-clause-rest
 returns-clause-rest c =
     let room = roomed_for c.args.e.now.aim c.args.errand.now (shown_response c.args.head.now) c.args.e.now.number c.args.state.now in
-    ap (λ (s : State). record s { seats = room.seats; flow = room.flow; cache = room.cache; refused = room.refused }) c.note_body.ensures.rest ∙ c.take_by_aim.ensures.rest
+    ap (λ (s : State). record s { seats = room.seats; flow = room.flow; cache = room.cache; refused = room.refused; is_astray = room.is_astray }) c.note_body.ensures.rest ∙ c.take_by_aim.ensures.rest

@@ -15,14 +15,14 @@ returns-clause-is c = λ flow.
     let fields = c.args.head.now.fields in
     let site = take c.args.path key in
     let short : take c.min.result key ≡ site = ap (λ n. take n key) c.min.ensures ∙ take_min c.args.path key in
-    let old : Parts = record { seats = c.args.seats.now; flow = flow; cache = c.args.cache.now; refused = c.args.refused.now } in
-    let first : Parts = record { seats = c.clear_key.new.seats; flow = flow; cache = c.clear_key.new.cache; refused = c.clear_key.new.refused } in
-    let second : Parts = record { seats = c.clear_places.new.seats; flow = flow; cache = c.clear_places.new.cache; refused = c.clear_places.new.refused } in
-    let third : Parts = record { seats = c.clear_places-2.new.seats; flow = flow; cache = c.clear_places-2.new.cache; refused = c.clear_places-2.new.refused } in
+    let old : Parts = record { seats = c.args.seats.now; flow = flow; cache = c.args.cache.now; refused = c.args.refused.now; is_astray = c.args.is_astray.now } in
+    let first : Parts = record { seats = c.clear_key.new.seats; flow = flow; cache = c.clear_key.new.cache; refused = c.clear_key.new.refused; is_astray = c.args.is_astray.now } in
+    let second : Parts = record { seats = c.clear_places.new.seats; flow = flow; cache = c.clear_places.new.cache; refused = c.clear_places.new.refused; is_astray = c.clear_places.new.is_astray } in
+    let third : Parts = record { seats = c.clear_places-2.new.seats; flow = flow; cache = c.clear_places-2.new.cache; refused = c.clear_places-2.new.refused; is_astray = c.clear_places-2.new.is_astray } in
     let cleared : first ≡ cleared_key key old =
-    ap (λ (x : List Seat). let p : Parts = record { seats = x; flow = flow; cache = c.clear_key.new.cache; refused = c.clear_key.new.refused } in p) c.clear_key.ensures.seats
-    ∙ ap (λ (x : Memory). let p : Parts = record { seats = all_decided_anew key old.refused old.seats; flow = flow; cache = x; refused = c.clear_key.new.refused } in p) c.clear_key.ensures.cache
-    ∙ ap (λ (x : List (List ℕ)). let p : Parts = record { seats = all_decided_anew key old.refused old.seats; flow = flow; cache = retired_at key old.cache; refused = x } in p) c.clear_key.ensures.refused in
+    ap (λ (x : List Seat). let p : Parts = record { seats = x; flow = flow; cache = c.clear_key.new.cache; refused = c.clear_key.new.refused; is_astray = c.args.is_astray.now } in p) c.clear_key.ensures.seats
+    ∙ ap (λ (x : Memory). let p : Parts = record { seats = all_decided_anew key old.refused old.seats; flow = flow; cache = x; refused = c.clear_key.new.refused; is_astray = c.args.is_astray.now } in p) c.clear_key.ensures.cache
+    ∙ ap (λ (x : List (List ℕ)). let p : Parts = record { seats = all_decided_anew key old.refused old.seats; flow = flow; cache = retired_at key old.cache; refused = x; is_astray = c.args.is_astray.now } in p) c.clear_key.ensures.refused in
     let A : List (List ℕ) → Type 0 = λ texts. ClearsEach (take c.min.result key) texts first second in
     let B : List (List ℕ) → Type 0 = λ texts. ClearsEach (take c.min.result key) texts second third in
     let C : List ℕ → Type 0 = λ at. ClearsEach at (values_of (codes "location") fields) first second in

@@ -10,7 +10,7 @@ decreases-loop-text l = length l.texts
 abbrev pub invariant-loop-text : goal.invariant-loop-text
 invariant-loop-text l = record {
   is :
-      (flow : Exchanges) (new : Parts) → ClearsEach l.site l.texts (record { seats = l.seats; flow = flow; cache = l.cache; refused = l.refused }) new
-      → ClearsEach l.site l.initial.texts (record { seats = l.initial.seats; flow = flow; cache = l.initial.cache; refused = l.initial.refused }) new;
+      (flow : Exchanges) (new : Parts) → ClearsEach l.site l.texts (record { seats = l.seats; flow = flow; cache = l.cache; refused = l.refused; is_astray = l.is_astray }) new
+      → ClearsEach l.site l.initial.texts (record { seats = l.initial.seats; flow = flow; cache = l.initial.cache; refused = l.initial.refused; is_astray = l.initial.is_astray }) new;
   numbers : numbers_of l.seats ≡ numbers_of l.initial.seats;
 }

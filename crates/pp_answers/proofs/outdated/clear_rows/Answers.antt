@@ -23,8 +23,8 @@ returns-in-Some-clause-is c =
     let head = shown_response c.args.head.now in
     let found : Some key ≡ key_of c.args.number s.flow = c.in-Some.ensures in
     let site = take c.args.path key in
-    let new : List Seat → Parts = λ seats. record { seats = seats; flow = s.flow; cache = c.clear_all.new.cache; refused = c.clear_all.new.refused } in
-    let old : List Seat → Parts = λ seats. cleared_key key (record { seats = seats; flow = s.flow; cache = s.cache; refused = s.refused }) in
+    let new : List Seat → Parts = λ seats. record { seats = seats; flow = s.flow; cache = c.clear_all.new.cache; refused = c.clear_all.new.refused; is_astray = c.clear_all.new.is_astray } in
+    let old : List Seat → Parts = λ seats. cleared_key key (record { seats = seats; flow = s.flow; cache = s.cache; refused = s.refused; is_astray = s.is_astray }) in
     let O : List Seat → Type 0 = λ seats. ClearsEach site (places_named head) (old seats) (new c.clear_all.new.seats) in
     let N : List Seat → Type 0 = λ seats. ClearsEach site (places_named head) (old s.seats.items) (new seats) in
     let P : Option (List ℕ) → Type 0 = λ k. InvalidatesRows k c.args.path head (parts s) (new (take s.seats.len (c.clear_all.new.seats ++ drop (length c.clear_all.new.seats) s.seats.items))) in

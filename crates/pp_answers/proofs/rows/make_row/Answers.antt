@@ -41,9 +41,9 @@ returns-in-Ok-clause-is c = λ ordered.
     let anew = all_decided_anew key s.refused s.seats.items in
     let cache : c.settle.new.self ≡ made 0 = c.in-Ok.ensures.settled ∙ ap (λ t. with_outdated key (with_row id key v head.fields t s.cache)) c.times_for-times.ensures in
     let between =
-    ap (λ (x : List Seat). let p : Parts = record { seats = x; flow = s.flow; cache = c.settle.new.self; refused = c.forget_refused.new.refused } in p) (written c)
-    ∙ ap (λ (x : Memory). let p : Parts = record { seats = anew; flow = s.flow; cache = x; refused = c.forget_refused.new.refused } in p) cache
-    ∙ ap (λ (x : List (List ℕ)). let p : Parts = record { seats = anew; flow = s.flow; cache = made 0; refused = x } in p) c.forget_refused.ensures.refused in
+    ap (λ (x : List Seat). let p : Parts = record { seats = x; flow = s.flow; cache = c.settle.new.self; refused = c.forget_refused.new.refused; is_astray = s.is_astray } in p) (written c)
+    ∙ ap (λ (x : Memory). let p : Parts = record { seats = anew; flow = s.flow; cache = x; refused = c.forget_refused.new.refused; is_astray = s.is_astray } in p) cache
+    ∙ ap (λ (x : List (List ℕ)). let p : Parts = record { seats = anew; flow = s.flow; cache = made 0; refused = x; is_astray = s.is_astray } in p) c.forget_refused.ensures.refused in
     let P : Option (List ℕ) → Type 0 = λ k. MakesRowOf e errand head v s.now k (parts s) (parts c.settle_on.new.state) in
     subst P found (record {
       made = Some id;

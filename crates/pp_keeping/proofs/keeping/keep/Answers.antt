@@ -1,6 +1,6 @@
 use Rattle.std.proofs.Common.{◌≡◌, ℕ, ap, length, subst, true}
 use Rattle.pp_desk.specs.declared.desk.Desk.{Desk}
-use Rattle.pp_keeping.specs.Keeping.{keeping, GrownNext, Repeats}
+use Rattle.pp_keeping.specs.Keeping.{keeping, GrownNext, RepeatsOn}
 use Rattle.pp_keeping.proofs.keeping.keep.Goals as goal
 
 pub returns-clause-is : goal.returns-clause-is
@@ -17,5 +17,5 @@ returns-clause-is g c =
     record {
       between = between;
       takes = c.take_names.ensures.is;
-      keeps = subst (λ (n : ℕ). Repeats (GrownNext n) 16 true between y) long c.keep_rows.ensures.is;
+      keeps = subst (λ (n : ℕ). RepeatsOn (GrownNext n) 17 true between y) long c.keep_rows.ensures.is;
     }

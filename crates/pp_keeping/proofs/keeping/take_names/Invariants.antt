@@ -1,6 +1,6 @@
 use Rattle.std.proofs.Common.{◌≡◌, ◌≤◌, length}
 use Rattle.pp_desk.specs.Anything.{anything}
-use Rattle.pp_keeping.specs.Keeping.{keeping, TakesNext}
+use Rattle.pp_keeping.specs.Keeping.{ends_there, keeping, TakesNext}
 use Rattle.pp_keeping.proofs.RepeatLemmas.{AreSoFar}
 use Rattle.pp_links.specs.Links.{IsLinked}
 use Rattle.pp_shelf.specs.Steady.{GrowsSteadily}
@@ -13,7 +13,7 @@ invariant-loop-name g l = record {
   linked : IsLinked (g.W.Logged.log l.world) (g.W.Logged.top l.world) l.links;
   holds : Told (g.W.Logged.log l.world) (Holds anything l.shelf);
   steady : GrowsSteadily (g.W.Logged.log l.fn.world) (g.W.Logged.log l.world);
-  is : AreSoFar TakesNext (length l.fn.desk.state.cache.outdated) l._name (keeping l.fn.desk.state l.fn.shelf (g.W.Logged.log l.fn.world) (g.W.Logged.faults l.fn.world)) (keeping l.desk.state l.shelf (g.W.Logged.log l.world) (g.W.Logged.faults l.world)) l.goes;
+  is : AreSoFar ends_there TakesNext (length l.fn.desk.state.cache.outdated) l._name (keeping l.fn.desk.state l.fn.shelf (g.W.Logged.log l.fn.world) (g.W.Logged.faults l.fn.world)) (keeping l.desk.state l.shelf (g.W.Logged.log l.world) (g.W.Logged.faults l.world)) l.goes;
   rest : record l.desk { state = record l.desk.state { cache = l.fn.desk.state.cache } } ≡ l.fn.desk;
   top : g.W.Logged.top l.world ≡ g.W.Logged.top l.fn.world;
   faults : g.W.Logged.faults l.fn.world ≤ g.W.Logged.faults l.world;

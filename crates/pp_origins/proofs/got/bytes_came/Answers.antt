@@ -33,13 +33,13 @@ loop-step-preserved c =
       rest = ap (λ (d : Desk). record d { state = old.state; peers = old.peers; «data» = old.«data» }) step.rest ∙ before.rest;
     }
 
-pub returns-after-loop-step-clause-is : goal.returns-after-loop-step-clause-is
-returns-after-loop-step-clause-is c = λ seated room.
+pub returns-clause-is : goal.returns-clause-is
+returns-clause-is c = λ seated room.
     let old : Desk = c.args.desk.now in
     let mid : Desk = c.loop-step.desk in
     let bytes : List ℕ = old.buffer.items in
     let n : ℕ = c.args.n in
-    most_got 65600 c.loop-step._step c.args.shelf.now c.args.k (Some (remaining (take n bytes) [])) (Some (remaining (slice_range bytes c.loop-step.at n) mid.«data».items)) (both old) (both mid) (omega (arith, c.loop-step-test.false)) (c.loop-step.invariant.is seated room)
+    most_got 65600 c.loop-step._step c.args.shelf.now c.args.k (Some (remaining (take n bytes) [])) (remaining (slice_range bytes c.loop-step.at n) mid.«data».items) (both old) (both mid) (omega (arith, c.loop-step-test.false)) (c.loop-step.invariant.is seated room)
 
 pub returns-in-None-clause-is : goal.returns-in-None-clause-is
 returns-in-None-clause-is c = λ seated room.

@@ -3,8 +3,8 @@ use Rattle.std.proofs.lemmas.Grind.{common_steps}
 use Rattle.pp_links.proofs.QuietLemmas.{quiet_then}
 use Rattle.pp_links.specs.Leading.{LeadsOn}
 use Rattle.pp_places.specs.Around.{around, moment_of}
-use Rattle.pp_desk.specs.Closings.{sides}
-use Rattle.pp_places.specs.Placing.{IsPlaced, goes_on_behind, next_waiting, place_for}
+use Rattle.pp_desk.specs.Closings.{Sides, sides}
+use Rattle.pp_places.specs.Placing.{ArePlaced, IsPlaced, goes_on_behind, next_waiting, place_for}
 use Rattle.pp_desk.specs.declared.desk.Desk.{Desk}
 use Rattle.pp_desk.proofs.ClosingLemmas.{kept_then}
 use Rattle.pp_places.proofs.PlacingLemmas.{all_placed, most_placed, one_more_placed}
@@ -38,14 +38,20 @@ loop-place-preserved g c =
       faults = le_trans before.faults step.faults;
     }
 
-pub returns-after-loop-place-clause-is : goal.returns-after-loop-place-clause-is
-returns-after-loop-place-clause-is g c = λ seated.
+pub returns-clause-is : goal.returns-clause-is
+returns-clause-is g c = λ seated.
     let old : Desk = c.args.desk.now in
     let top = g.W.Logged.top in
     let log = g.W.Logged.log in
     let faults = g.W.Logged.faults in
-    most_placed 65536 c.loop-place._place (moment_of old.state) c.loop-place.after (around old c.args.links.now (top c.args.world.now)) (around c.loop-place.desk c.loop-place.links (top c.loop-place.world)) (log c.args.world.now) (log c.loop-place.world) (faults c.args.world.now) (faults c.loop-place.world)
-    (omega (arith, c.loop-place-test.false)) (c.loop-place.invariant.is seated)
+    let x = around old c.args.links.now (top c.args.world.now) in
+    let mid = around c.loop-place.desk c.loop-place.links (top c.loop-place.world) in
+    subst (λ (s : Sides). LeadsOn (ArePlaced 65536 (moment_of old.state) None) x (record mid { sides = s }) (log c.args.world.now) (log c.loop-place.world) (faults c.args.world.now) (faults c.loop-place.world)) (sym c.note_left.ensures.is)
+    (most_placed 65536 c.loop-place._place (moment_of old.state) c.loop-place.after x mid (log c.args.world.now) (log c.loop-place.world) (faults c.args.world.now) (faults c.loop-place.world)
+    (omega (arith, c.loop-place-test.false)) (c.loop-place.invariant.is seated))
+
+pub returns-clause-rest : goal.returns-clause-rest
+returns-clause-rest g c = kept_then c.args.desk.now c.loop-place.desk c.note_left.new.desk c.loop-place.invariant.rest c.note_left.ensures.rest
 
 pub returns-in_default-clause-is : goal.returns-in_default-clause-is
 returns-in_default-clause-is g c = λ seated.

@@ -67,8 +67,8 @@ loop-due-preserved g c =
       top = step.top ∙ before.top;
     }
 
-pub returns-after-loop-due-clause-is : goal.returns-after-loop-due-clause-is
-returns-after-loop-due-clause-is g c = λ seated.
+pub returns-clause-is : goal.returns-clause-is
+returns-clause-is g c = λ seated.
     let top = g.W.Logged.top in
     let log = g.W.Logged.log in
     let faults = g.W.Logged.faults in

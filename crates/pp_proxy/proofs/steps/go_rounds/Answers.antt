@@ -1,8 +1,11 @@
-use Rattle.std.proofs.Common.{◌≡◌, true, false, arith}
+use Rattle.std.proofs.Common.{◌≡◌, true, false, subst, sym, arith}
 use Rattle.std.proofs.lemmas.Grind.{common_steps}
 use Rattle.pp_links.proofs.QuietLemmas.{quiet_none, quiet_then}
 use Rattle.pp_proxy.proofs.RoundsLemmas.{all_rounds, most_rounds, no_round, one_more_round}
-use Rattle.pp_proxy.specs.Moving.{moving}
+use Rattle.pp_proxy.specs.Moving.{LeadsOn, moving, with_state}
+use Rattle.pp_proxy.specs.Rounds.{GoRounds}
+use Rattle.pp_state.specs.Ends.{AreSeated}
+use Rattle.pp_state.specs.declared.state.State.{State}
 use Rattle.pp_proxy.proofs.steps.go_rounds.Goals as goal
 
 pub loop-round-init : goal.loop-round-init
@@ -34,13 +37,20 @@ loop-round-preserved g c =
       faults = omega (arith, before.faults, step.faults);
     }
 
-pub returns-after-loop-round-clause-is : goal.returns-after-loop-round-clause-is
-returns-after-loop-round-clause-is g c = λ seated.
+pub returns-clause-is : goal.returns-clause-is
+returns-clause-is g c = λ seated.
     let top = g.W.Logged.top in
     let log = g.W.Logged.log in
     let faults = g.W.Logged.faults in
-    most_rounds c.loop-round._round c.args.shelf.now (moving c.args.desk.now c.args.links.now (top c.args.world.now)) (moving c.loop-round.desk c.loop-round.links (top c.loop-round.world)) c.loop-round.is_decided (log c.args.world.now)
-    (log c.loop-round.world) (faults c.args.world.now) (faults c.loop-round.world) (omega (arith, c.loop-round-test.false)) (c.loop-round.invariant.is seated)
+    let shelf = c.args.shelf.now in
+    let x = moving c.args.desk.now c.args.links.now (top c.args.world.now) in
+    let mid = moving c.loop-round.desk c.loop-round.links (top c.loop-round.world) in
+    subst (λ (s : State). LeadsOn (λ a l b. GoRounds 65536 shelf true a l b) x (with_state s mid) (log c.args.world.now) (log c.loop-round.world) (faults c.args.world.now) (faults c.loop-round.world)) (sym c.note_more.ensures)
+    (most_rounds c.loop-round._round shelf x mid c.loop-round.is_decided (log c.args.world.now)
+    (log c.loop-round.world) (faults c.args.world.now) (faults c.loop-round.world) (omega (arith, c.loop-round-test.false)) (c.loop-round.invariant.is seated))
+
+pub returns-clause-seated : goal.returns-clause-seated
+returns-clause-seated g c = λ seated. subst (λ (s : State). AreSeated s) (sym c.note_more.ensures) (c.loop-round.invariant.seated seated)
 
 pub returns-then-not-is_decided-clause-is : goal.returns-then-not-is_decided-clause-is
 returns-then-not-is_decided-clause-is g c = λ seated.

@@ -22,11 +22,11 @@ returns-clause-is g c =
     let mid : State = c.take.new.state in
     let new : State = c.regain.new.self in
     let same : given ≡ given_way d i old = c.give_way.ensures.is in
-    let rest_given : record given { seats = old.seats; flow = old.flow; cache = old.cache; refused = old.refused } ≡ old =
-    ap (λ (s : State). record s { seats = old.seats; flow = old.flow; cache = old.cache; refused = old.refused }) same ∙ given_rest d i old in
-    let rest_mid : record mid { seats = old.seats; flow = old.flow; cache = old.cache; refused = old.refused } ≡ old =
-    ap (λ (s : State). record s { seats = old.seats; flow = old.flow; cache = old.cache; refused = old.refused }) c.take.ensures.rest ∙ rest_given in
-    let with_seats : List Seat → State → Parts = λ seats s. record { seats = seats; flow = s.flow; cache = s.cache; refused = s.refused } in
+    let rest_given : record given { seats = old.seats; flow = old.flow; cache = old.cache; refused = old.refused; is_astray = old.is_astray } ≡ old =
+    ap (λ (s : State). record s { seats = old.seats; flow = old.flow; cache = old.cache; refused = old.refused; is_astray = old.is_astray }) same ∙ given_rest d i old in
+    let rest_mid : record mid { seats = old.seats; flow = old.flow; cache = old.cache; refused = old.refused; is_astray = old.is_astray } ≡ old =
+    ap (λ (s : State). record s { seats = old.seats; flow = old.flow; cache = old.cache; refused = old.refused; is_astray = old.is_astray }) c.take.ensures.rest ∙ rest_given in
+    let with_seats : List Seat → State → Parts = λ seats s. record { seats = seats; flow = s.flow; cache = s.cache; refused = s.refused; is_astray = s.is_astray } in
     record {
       between = parts mid;
       takes = subst (λ (s : State). Takes s.name.items i d (parts (given_way d i old)) (parts mid)) rest_given (subst (λ (p : Parts). Takes given.name.items i d p (parts mid)) (ap parts same) c.take.ensures.is);
@@ -43,5 +43,5 @@ returns-clause-numbers g c =
 pub returns-clause-rest : goal.returns-clause-rest
 returns-clause-rest g c =
     let old : State = c.args.state.now in
-    let back : State → State = λ s. record s { seats = old.seats; flow = old.flow; cache = old.cache; refused = old.refused } in
+    let back : State → State = λ s. record s { seats = old.seats; flow = old.flow; cache = old.cache; refused = old.refused; is_astray = old.is_astray } in
     ap back c.regain.ensures.rest ∙ ap back c.take.ensures.rest ∙ ap back c.give_way.ensures.is ∙ given_rest c.args.decision c.args.i old

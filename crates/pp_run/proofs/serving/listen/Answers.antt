@@ -1,14 +1,28 @@
+use Rattle.std.proofs.Common.{◌≡◌, subst, sym}
 use Rattle.pp_world.proofs.CallLemmas.{rises_earlier}
-use Rattle.pp_run.proofs.Folders.{holds_listened, listens_and_goes, may_not}
+use Rattle.pp_run.proofs.Folders.{holds_listened, listens_and_goes, may_not, served_is, served_listens}
+use Rattle.pp_run.specs.Exits.{IsServedAs, ListensAs, served_as}
+use Rattle.pp_run.specs.declared.ending.Exit.{Exit}
 use Rattle.pp_run.proofs.serving.listen.Goals as goal
 
 pub serve-requires-clause-holds : goal.serve-requires-clause-holds
 serve-requires-clause-holds g c = holds_listened c.args.door.now.port c.args.shelf.now c.in-Ok.ensures.told c.requires.holds
 
 pub returns-in-Ok : goal.returns-in-Ok
-returns-in-Ok g c = record { told = listens_and_goes c.args.door.now.port c.args.most_turns c.in-Ok.ensures.told c.serve.ensures.goes }
+returns-in-Ok g c =
+    let astray = c.serve.new.proxy.desk.state.is_astray in
+    let exit : c.served.result ≡ served_as astray = c.served.ensures in
+    let old = g.W.Logged.log c.args.world.now in
+    let new = g.W.Logged.log c.serve.new.world in
+    let before = g.W.Logged.faults c.args.world.now in
+    let now = g.W.Logged.faults c.serve.new.world in
+    let goes = listens_and_goes c.args.door.now.port c.args.most_turns c.in-Ok.ensures.told c.serve.ensures.goes in
+    record {
+      told = subst (λ (e : Exit). ListensAs c.args.door.now.port c.args.most_turns e old new before now) (sym exit) (served_listens astray c.args.door.now.port c.args.most_turns before now old new goes);
+      astray = subst (λ (e : Exit). IsServedAs e astray) (sym exit) (served_is astray);
+    }
 
 pub returns-in-Err : goal.returns-in-Err
 returns-in-Err g c =
     let printed = rw c.no_listener_line.ensures at (rw c.as_slice.ensures.value at (c.print.ensures.told)) in
-    record { told = (may_not c.args.door.now.port c.in-Err.ensures.told printed, rises_earlier _ _ _ _ printed c.in-Err.ensures.cause c.print.ensures.faults) }
+    record { astray = tt; told = (may_not c.args.door.now.port c.in-Err.ensures.told printed, rises_earlier _ _ _ _ printed c.in-Err.ensures.cause c.print.ensures.faults) }

@@ -16,5 +16,5 @@ loop-exchange-preserved c =
           ∙ sym (line_next 1024 c.loop-exchange._exchange c.args.k c.in-Some.number c.args.counts (parts c.loop-exchange.state) c.loop-exchange-test.true first)
           ∙ c.loop-exchange.invariant.is order;
       numbers = c.lose_place.ensures.numbers ∙ c.loop-exchange.invariant.numbers;
-      rest = ap (λ (s : State). record s { seats = old.seats; flow = old.flow; cache = old.cache; refused = old.refused }) c.lose_place.ensures.rest ∙ c.loop-exchange.invariant.rest;
+      rest = ap (λ (s : State). record s { seats = old.seats; flow = old.flow; cache = old.cache; refused = old.refused; is_astray = old.is_astray }) c.lose_place.ensures.rest ∙ c.loop-exchange.invariant.rest;
     }

@@ -33,7 +33,7 @@ loop-ask-preserved c =
           subst (λ (m : ℕ). Leads (Some number) m (parts old) (parts new)) one
           (leads_next c.loop-ask.after number (all - i) (parts old) (parts mid) (parts new) (c.loop-ask.invariant.is order rises) found (c.give_up_ask.ensures.is seated));
       numbers = c.give_up_ask.ensures.numbers ∙ c.loop-ask.invariant.numbers;
-      rest = ap (λ (s : State). record s { seats = old.seats; flow = old.flow; cache = old.cache; refused = old.refused }) c.give_up_ask.ensures.rest ∙ c.loop-ask.invariant.rest;
+      rest = ap (λ (s : State). record s { seats = old.seats; flow = old.flow; cache = old.cache; refused = old.refused; is_astray = old.is_astray }) c.give_up_ask.ensures.rest ∙ c.loop-ask.invariant.rest;
     }
 
 pub returns-after-loop-ask-clause-is : goal.returns-after-loop-ask-clause-is

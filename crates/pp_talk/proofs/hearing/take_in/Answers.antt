@@ -42,5 +42,5 @@ returns-clause-is g c =
       called = called ∙ ap (λ (n : ℕ). has_link n c.args.links.now && nat_lt 0 (length front)) id;
       room = room;
       within = call.within;
-      is = record { seats = c.take_found_at.ensures.is; rest = ap (λ (t : State). record { parts = parts t; peers = old.peers }) c.take_found_at.ensures.rest };
+      is = record { seats = c.take_found_at.ensures.is; astray = c.take_found_at.ensures.astray; rest = ap (λ (t : State). record { parts = parts t; peers = old.peers }) c.take_found_at.ensures.rest };
     })
