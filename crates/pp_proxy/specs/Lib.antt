@@ -6,6 +6,7 @@ pub mod Events
 pub mod Handling
 pub mod Leaving
 pub mod Moving
+pub mod Opening
 pub mod Rounds
 pub mod Settling
 pub mod Taking

@@ -17,7 +17,7 @@ use Rattle.pp_store.specs.Held.{Holds}
 use Rattle.pp_store.specs.Kept.{KeptMap}
 use Rattle.pp_store.proofs.Backing.{outlast-others}
 use Rattle.pp_run.specs.Lines.{no_disk_line, no_listener_line, no_memory_line}
-use Rattle.pp_run.specs.Exits.{HasNoDisk, IsOpening, IsServedAs, ListensAndGoes, ListensAs, MayNot, OpensAnd, OpensOn, WantsMemory, served_as}
+use Rattle.pp_run.specs.Exits.{HasNoDisk, IsOpening, ListensAndGoes, ListensAs, MayNot, OpensAnd, OpensOn, WantsMemory, served_as}
 use Rattle.pp_run.specs.Serving.{GoesUpTo}
 use Rattle.pp_run.specs.declared.ending.Exit.{Exit}
 use Rattle.pp_run.specs.declared.ending.Exit.TheVariants.{Served, ServedAstray, Usage, NoMemory, NoDisk, NoListener, NoConfig}
@@ -81,10 +81,6 @@ may_not port call printed = record {
 pub served_listens : (astray : Bool) (port most_turns before now : ℕ) (old new : Option Log) → GrowsBy [] (ListensAndGoes port most_turns) old new → ListensAs port most_turns (served_as astray) old new before now
 served_listens true port most_turns before now old new goes = goes
 served_listens false port most_turns before now old new goes = goes
-
-pub served_is : (astray : Bool) → IsServedAs (served_as astray) astray
-served_is true = refl
-served_is false = refl
 
 -- ---- the folder
 

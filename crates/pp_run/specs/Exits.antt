@@ -71,15 +71,6 @@ abbrev pub served_as : Bool → Exit
 served_as false = Served
 served_as true = ServedAstray
 
-abbrev pub IsServedAs : Exit → Bool → Type 0
-IsServedAs Served astray = astray ≡ false
-IsServedAs ServedAstray astray = astray ≡ true
-IsServedAs NoListener astray = ⊤
-IsServedAs NoMemory astray = ⊤
-IsServedAs Usage astray = ⊤
-IsServedAs NoDisk astray = ⊤
-IsServedAs NoConfig astray = ⊤
-
 -- it may not listen on this port, and nothing follows but the line
 abbrev pub MayNot : ℕ → Log → Type 0
 MayNot port log = log ≡ Listens port false ∷ Printed (no_listener_line port) ∷ []

@@ -1,3 +1,4 @@
 pub mod Lines
+pub mod Lives
 pub mod Serving
 pub mod Exits

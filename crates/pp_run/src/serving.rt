@@ -4,8 +4,10 @@ ghost use Rattle.pp_conf.specs.Logs.{log_place, shown_place};
 ghost use Rattle.pp_links.specs.Quiet.{GrowsBy};
 ghost use Rattle.pp_desk.specs.Anything.{anything};
 ghost use Rattle.pp_recover.specs.Opening.{IsFresh};
-ghost use Rattle.pp_run.specs.Exits.{IsServedAs, ListensAs, OpensOn, served_as};
+ghost use Rattle.pp_run.specs.Exits.{ListensAs, OpensOn, served_as};
+ghost use Rattle.pp_run.specs.Lives.{HasLived, ListensAndTurns, Serving, outside};
 ghost use Rattle.pp_proxy.specs.Awaiting.{standing};
+ghost use Rattle.pp_proxy.specs.Opening.{IsOpened};
 ghost use Rattle.pp_run.specs.Serving.{GoesUpTo, TurnsUpTo};
 ghost use Rattle.pp_store.specs.Held.{Holds};
 ghost use Rattle.pp_world.specs.Files.{Files};
@@ -24,6 +26,7 @@ use std::alloc::Global;
 pub(crate) fn open<W: World>(alloc: Global, conf: &Conf, world: &mut W) -> Exit
     requires { Told (W.log world.old) (λ l. (files : Files) × IsFresh files l) }
     ensures told { OpensOn [] conf.now.root conf.now.port conf.now.max_turns result (W.log world.old) (W.log world.new) (W.faults world.old) (W.faults world.new) }
+    ensures lived { Serving result (HasLived conf.now result (outside (W.log world.old) (W.top world.old) (W.faults world.old)) (outside (W.log world.new) (W.top world.new) (W.faults world.new))) }
 {
     match Proxy::open(alloc, conf) {
         Ok(mut proxy) => open_folder(alloc, &mut proxy, conf, world),
@@ -36,9 +39,10 @@ pub(crate) fn open<W: World>(alloc: Global, conf: &Conf, world: &mut W) -> Exit
 
 /// Opens the folder, listens, and serves where it may.
 fn open_folder<W: World>(alloc: Global, proxy: &mut Proxy, conf: &Conf, world: &mut W) -> Exit
-    requires links { proxy.old.links ≡ [] }
+    requires opened { IsOpened conf.now proxy.old }
     requires fresh { Told (W.log world.old) (λ l. (files : Files) × IsFresh files l) }
     ensures told { OpensOn [] conf.now.root conf.now.port conf.now.max_turns result (W.log world.old) (W.log world.new) (W.faults world.old) (W.faults world.new) }
+    ensures lived { Serving result (HasLived conf.now result (outside (W.log world.old) (W.top world.old) (W.faults world.old)) (outside (W.log world.new) (W.top world.new) (W.faults world.new))) }
 {
     match Shelf::open(alloc, world, conf.root.as_slice()) {
         Ok(mut shelf) => listen(proxy, &mut shelf, &door_of(conf), conf.max_turns, world),
@@ -79,7 +83,7 @@ fn listen<W: World>(
     requires links { proxy.old.links ≡ [] }
     requires holds { Told (W.log world.old) (Holds anything shelf.old) }
     ensures told { ListensAs door.now.port most_turns result (W.log world.old) (W.log world.new) (W.faults world.old) (W.faults world.new) }
-    ensures astray { IsServedAs result proxy.new.desk.state.is_astray }
+    ensures turns { Serving result (ListensAndTurns door.now.port most_turns result shelf.old shelf.new proxy.old proxy.new (outside (W.log world.old) (W.top world.old) (W.faults world.old)) (outside (W.log world.new) (W.top world.new) (W.faults world.new))) }
 {
     match world.listen(door) {
         Ok(()) => {

@@ -1,5 +1,6 @@
-use Rattle.std.proofs.Common.{map, string_bytes, inl}
+use Rattle.std.proofs.Common.{ap, is_some, refl, sym, map, string_bytes, inl, Some}
 use Rattle.pp_run.proofs.Folders.{fresh_later}
+use Rattle.pp_run.proofs.Living.{asked_named, none_served}
 use Rattle.pp_run.proofs.Starting.{ends_later, unread}
 use Rattle.pp_run.proofs.program.read_file.Goals as goal
 
@@ -17,3 +18,13 @@ returns-in-Err-Unreadable-clause-told g c =
     inl (unread (map string_bytes c.args.words.now) c.args.name.now _ _ _ c.requires.named
     (rw unreadable.field-0-is at (unreadable.ensures.told)) (rw unreadable.field-0-is at (unreadable.ensures.cause))
     (rw c.as_bytes.ensures.value at (c.print.ensures.told)) c.print.ensures.faults)
+
+pub returns-in-Ok-clause-served : goal.returns-in-Ok-clause-served
+returns-in-Ok-clause-served g c = λ served. record {
+  text = _;
+  named = sym (ap is_some c.requires.named);
+  asked = _;
+  asks = asked_named (map string_bytes c.args.words.now) c.args.name.now _ c.requires.named c.in-Ok.ensures.told;
+  by = record { top = c.in-Ok.ensures.top; count = c.in-Ok.ensures.faults };
+  read = rw c.as_slice.ensures at (c.start.ensures.read served);
+}

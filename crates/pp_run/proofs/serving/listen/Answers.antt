@@ -1,7 +1,7 @@
-use Rattle.std.proofs.Common.{◌≡◌, subst, sym}
+use Rattle.std.proofs.Common.{◌≡◌, true, false, subst, sym}
 use Rattle.pp_world.proofs.CallLemmas.{rises_earlier}
-use Rattle.pp_run.proofs.Folders.{holds_listened, listens_and_goes, may_not, served_is, served_listens}
-use Rattle.pp_run.specs.Exits.{IsServedAs, ListensAs, served_as}
+use Rattle.pp_run.proofs.Folders.{holds_listened, listens_and_goes, may_not, served_listens}
+use Rattle.pp_run.specs.Exits.{ListensAs, served_as}
 use Rattle.pp_run.specs.declared.ending.Exit.{Exit}
 use Rattle.pp_run.proofs.serving.listen.Goals as goal
 
@@ -19,10 +19,15 @@ returns-in-Ok g c =
     let goes = listens_and_goes c.args.door.now.port c.args.most_turns c.in-Ok.ensures.told c.serve.ensures.goes in
     record {
       told = subst (λ (e : Exit). ListensAs c.args.door.now.port c.args.most_turns e old new before now) (sym exit) (served_listens astray c.args.door.now.port c.args.most_turns before now old new goes);
-      astray = subst (λ (e : Exit). IsServedAs e astray) (sym exit) (served_is astray);
+      turns = λ served. record {
+        listening = _;
+        listens = record { told = c.in-Ok.ensures.told; by = record { top = c.in-Ok.ensures.top; count = c.in-Ok.ensures.faults } };
+        turns = c.serve.ensures.turns;
+        exit_is = exit;
+      };
     }
 
 pub returns-in-Err : goal.returns-in-Err
 returns-in-Err g c =
     let printed = rw c.no_listener_line.ensures at (rw c.as_slice.ensures.value at (c.print.ensures.told)) in
-    record { astray = tt; told = (may_not c.args.door.now.port c.in-Err.ensures.told printed, rises_earlier _ _ _ _ printed c.in-Err.ensures.cause c.print.ensures.faults) }
+    record { turns = λ served. let bad : false ≡ true = served in absurd (cc); told = (may_not c.args.door.now.port c.in-Err.ensures.told printed, rises_earlier _ _ _ _ printed c.in-Err.ensures.cause c.print.ensures.faults) }
