@@ -41,10 +41,10 @@ pub record IsNew (conf : Conf) (s : State) : Type 0 where
 
 -- ---- the memory that is taken once
 
--- for all clients that there may be
+-- for all clients that there may be. Where all are looked at, there is still room to note one
 pub record HasRoom (s : State) : Type 0 where
   pub seats : 256 ≤ vec_capacity s.seats
-  pub awake : 256 ≤ vec_capacity s.awake
+  pub awake : 257 ≤ vec_capacity s.awake
 
 -- and for one read, its data, and a file of the disk
 pub record HasBuffers (d : Desk) : Type 0 where

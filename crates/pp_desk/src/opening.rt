@@ -70,7 +70,7 @@ fn state_of(alloc: Global, conf: &Conf) -> Result<State, OutOfMemory>
         is_ticked: false,
         is_stopped: false,
         is_evicting: false,
-        awake: Vec::with_capacity(alloc, MAX_CLIENTS)?,
+        awake: Vec::with_capacity(alloc, MAX_CLIENTS + 1)?,
         forgotten: Noted::new(alloc)?,
         refused: Noted::new(alloc)?,
         is_astray: false,

@@ -1,8 +1,10 @@
 -- A turn from one wait to the next: what is waited for, what the wait changes, and the event, if one came (ours).
 use Rattle.std.specs.Prelude.{◌≡◌, ◌≤◌, ℕ, IsTrue, nat_lt, false, map, length, take, List, [], Option, Some, None}
 use Rattle.std.specs.List.{filter}
+use Rattle.pp_desk.specs.Anything.{anything}
 use Rattle.pp_desk.specs.declared.desk.Desk.{Desk}
 use Rattle.pp_due.specs.Waits.{all_read, all_written, is_loud}
+use Rattle.pp_links.specs.Links.{IsLinked}
 use Rattle.pp_links.specs.Waits.{TurnsAway, links_after}
 use Rattle.pp_proxy.specs.Events.{TakesEvent}
 use Rattle.pp_proxy.specs.Moving.{Turning, at_desk, turning}
@@ -12,6 +14,7 @@ use Rattle.pp_proxy.specs.declared.proxy.Turn.{Turn}
 use Rattle.pp_proxy.specs.declared.proxy.Turn.TheVariants.{Went}
 use Rattle.pp_state.specs.Ends.{AreInOrder, AreSeated, parts}
 use Rattle.pp_state.specs.Unseen.{all_rested}
+use Rattle.pp_store.specs.Held.{Holds}
 use Rattle.pp_store.specs.Kept.{KeptMap}
 use Rattle.pp_wants.specs.Awaited.{all_asked, all_got}
 use Rattle.pp_wants.specs.Rests.{all_waiting, rested_peer}
@@ -88,6 +91,9 @@ turn_behind (Some event) = turn_by event
 -- ---- all of it
 
 pub record TurnsOn (result : Turn) (x y : Standing) : Type 0 where
+  -- as the turn before it left them
+  pub linked : IsLinked x.turning.log x.turning.moving.top x.turning.moving.links
+  pub holds : Told x.turning.log (Holds anything x.turning.shelf)
   pub wants : Wants
   pub clients : ℕ
   pub awaiting : Desk

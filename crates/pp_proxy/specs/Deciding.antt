@@ -1,5 +1,6 @@
 -- What is due is taken, one after the other, behind a client for whom there was no memory (the order is ours).
 use Rattle.std.specs.Prelude.{◌≡◌, ℕ, zero, suc, Bool, true, false, ◌||◌, List, [], ◌∷◌, ◌++◌, is_some, Option, Some, None}
+use Rattle.pp_cache.specs.Bounds.{IsBounded}
 use Rattle.pp_desk.specs.Closings.{KeepsDesk}
 use Rattle.pp_desk.specs.Shutting.{closings}
 use Rattle.pp_due.specs.Entering.{FirstDue}
@@ -37,6 +38,7 @@ pub record TurnsAway (x : Moving) (log : Log) (y : Moving) : Type 0 where
 pub record TakesOne (i : ℕ) (due : Due) (x : Moving) (log : Log) (y : Moving) : Type 0 where
   pub log_is : log ≡ due_log i due x.desk.state
   pub is : TakesDue i due x.desk y.desk
+  pub bounded : IsBounded y.desk.state.cache
   pub numbers : numbers_of y.desk.state.seats.items ≡ numbers_of x.desk.state.seats.items
   pub rest : KeepsDesk x.desk y.desk
   pub links : y.links ≡ x.links

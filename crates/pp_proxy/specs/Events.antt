@@ -1,5 +1,6 @@
 -- A turn behind its wait: the event, what leaves memory, what is kept on the disk, and what follows (the order is ours).
 use Rattle.std.specs.Prelude.{◌≡◌, ◌≤◌, length}
+use Rattle.pp_cache.specs.Bounds.{IsBounded}
 use Rattle.pp_keeping.specs.Keeping.{KeepsAll, keeping}
 use Rattle.pp_proxy.specs.Handling.{Handles}
 use Rattle.pp_proxy.specs.Leaving.{Leaves}
@@ -22,8 +23,11 @@ pub record TakesEvent (event : Event) (x y : Turning) : Type 0 where
   pub left : Turning
   pub kept : Turning
   pub handles : AreSeated x.moving.desk.state → Handles event x handled
+  pub handled_bounded : IsBounded handled.moving.desk.state.cache
   pub leaves : AreSeated handled.moving.desk.state → LeadsOn Leaves handled.moving left.moving handled.log left.log handled.faults left.faults
   pub leaves_shelf : left.shelf ≡ handled.shelf
+  pub left_bounded : IsBounded left.moving.desk.state.cache
   pub keeps : Keeps left kept
+  pub kept_bounded : IsBounded kept.moving.desk.state.cache
   pub settles : AreSeated kept.moving.desk.state → LeadsOn (Settles kept.shelf) kept.moving y.moving kept.log y.log kept.faults y.faults
   pub settles_shelf : y.shelf ≡ kept.shelf

@@ -52,10 +52,13 @@ pub(crate) fn take_event<W: World>(
     ensures faults { W.faults world.old ≤ W.faults world.new }
 {
     handle(desk, links, shelf, world, event);
+    desk.state.cache.bounds();
     desk.state.regain();
     leave_memory(&mut desk.state, links, world);
     give_up_asks(&mut desk.state);
+    desk.state.cache.bounds();
     keep(desk, links, shelf, world);
+    desk.state.cache.bounds();
     settle(desk, links, shelf, world);
 }
 
@@ -166,6 +169,7 @@ fn decide<W: Wire>(desk: &mut Desk, links: &mut Links, shelf: &Shelf, world: &mu
         };
         is_any = true;
         take_due(desk, links, world, i, due);
+        desk.state.cache.bounds();
     }
     desk.state.is_astray = true;
     is_any

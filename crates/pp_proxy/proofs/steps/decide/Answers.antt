@@ -60,7 +60,7 @@ loop-due-preserved g c =
           one_more_decided c.loop-due._due shelf x here there c.loop-due.is_any found i due (log c.args.world.now) (log c.loop-due.world) (log c.take_due.new.world) (faults c.args.world.now) (faults c.loop-due.world) (faults c.take_due.new.world)
           c.loop-due-test.true (before.is seated) first
           (taken_one i due (with_state found here) there (log c.loop-due.world) (log c.take_due.new.world) (faults c.loop-due.world) (faults c.take_due.new.world)
-          (record { log_is = refl; is = step.is (subst (λ (ns : List ℕ). AreInOrder ns) (sym numbers) seated); numbers = step.numbers; rest = step.rest; links = refl; top = step.top }) step.told step.faults);
+          (record { log_is = refl; is = step.is (subst (λ (ns : List ℕ). AreInOrder ns) (sym numbers) seated); bounded = c.bounds.ensures; numbers = step.numbers; rest = step.rest; links = refl; top = step.top }) step.told step.faults);
       numbers = step.numbers ∙ numbers;
       rest = next_keeps old (record mid { state = found }) new (found_keeps old mid found before.rest stays.rest) step.rest;
       faults = omega (arith, before.faults, step.faults);
