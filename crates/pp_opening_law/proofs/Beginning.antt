@@ -1,5 +1,5 @@
 -- Where nobody is there and nothing is in memory, all is shown.
-use Rattle.std.proofs.Common.{◌≡◌, ◌≤◌, refl, sym, subst, ap, ◌∙◌, ℕ, ◌%◌, ◌&&◌, Bool, List, [], arith}
+use Rattle.std.proofs.Common.{◌≡◌, refl, sym, subst, ap, ◌∙◌, ℕ, ◌%◌, ◌&&◌, Bool, List, [], arith}
 use Rattle.std.specs.Prelude.{false, nat_lt}
 use Rattle.std.proofs.lemmas.Bool.Decides.{nat_tests}
 use Rattle.pp_cache.specs.Bounds.{IsBounded}
