@@ -23,6 +23,8 @@ SECONDS = 2.0
 # As many as all connections that the proxies may keep, and those of the client.
 ORIGINS = 128
 IDLE = 200
+IDLE_ROUNDS = 9
+IDLE_SECONDS = 1.0
 READERS = 64
 NEW_LEN = 50_000_000
 SIZES = {"/1k": (1024, 32), "/100k": (102_400, 8), "/10m": (10_000_000, 4)}
@@ -107,17 +109,23 @@ def compare(loads, ways, title, path, connections, unit):
 
 
 def beside_idle_clients(loads, way):
-    """How fast hits are while so many clients are connected and say nothing, of what they are without: by turns."""
-    alone, beside = [], []
-    for _ in range(ROUNDS):
-        alone.append(loads.run(way, "/1k", 32, SECONDS)[0])
+    """How fast hits are while so many clients are connected and say nothing, of what they are without. What one run of the client takes
+    varies by a half on a machine that others share, so they come without, with, with, and without in each round, and there are more rounds."""
+    ratios = []
+    for _ in range(IDLE_ROUNDS):
+        alone = loads.run(way, "/1k", 32, IDLE_SECONDS)[0]
         idle = [socket.create_connection(way.address) for _ in range(IDLE)]
         time.sleep(0.2)
-        beside.append(loads.run(way, "/1k", 32, SECONDS)[0])
+        beside = sum(loads.run(way, "/1k", 32, IDLE_SECONDS)[0] for _ in range(2))
         for client in idle:
             client.close()
-    ratio = statistics.median(after / before for before, after in zip(alone, beside))
-    print(f"  {way.name:<10} {ratio:.2f} of it beside {IDLE} clients that say nothing")
+        time.sleep(0.2)
+        alone += loads.run(way, "/1k", 32, IDLE_SECONDS)[0]
+        ratios.append(beside / alone)
+    print(
+        f"  {way.name:<10} {statistics.median(ratios):.2f} of it beside {IDLE} clients that say nothing"
+        f" ({min(ratios):.2f} to {max(ratios):.2f} in {IDLE_ROUNDS} rounds)"
+    )
 
 
 def read_by_many(loads, ways, asked):
