@@ -90,16 +90,16 @@ useless_stays i p = by (exchange_of i p)
     by None is = is
     by (Some e) is = at (is_served_by i e.number p) is
 
+by_row_stays : (i : ℕ) (d : Decision) (span : ℕ × ℕ) (id : ObjectId) (p : Parts) → StaySo p (followed_by i d span id p)
+unfolding followed_by
+by_row_stays i d span id p is = let q : Parts = following id (on_seat i with_interim p) in useless_stays i (answered_at i d (Some id) span q) (answered_stays i d (Some id) span q is)
+
 followed_stays : (i : ℕ) (d : Decision) (span : ℕ × ℕ) (p : Parts) → StaySo p (followed_at i d span p)
 followed_stays i d span p = by (row_at i p)
   where
-    one : (id : ObjectId) → StaySo p (followed_by i d span id p)
-    unfolding followed_by
-    one id is = let q : Parts = following id (on_seat i with_interim p) in useless_stays i (answered_at i d (Some id) span q) (answered_stays i d (Some id) span q is)
-
     by : (o : Option Instance) → StaySo p (row_followed i d span o p)
     by None is = is
-    by (Some x) is = one (id_of x) is
+    by (Some x) is = by_row_stays i d span (id_of x) p is
 
 does_stays : (name : List ℕ) (i : ℕ) (d : Decision) (p q : Parts) → Does name i d p q → StaySo p q
 does_stays name i (Refuse status) p q does is = ap (λ (r : Parts). r.is_astray) does.rest ∙ all_left_stays i p is
@@ -131,7 +131,7 @@ way_stays d i t = by (row_in_way d i t)
 
 own_stays : (i : ℕ) (o : Option Exchange) (x : Sides) → StaySo x.parts (left_own i o x).parts
 own_stays i None x is = is
-own_stays i (Some e) x = by (option_map (λ (y : Entry). y.errand) (entry_of e.number x.parts.flow))
+own_stays i (Some e) x was = by (option_map (λ (y : Entry). y.errand) (entry_of e.number x.parts.flow)) was
   where
     nobodys : (o : Option Exchange) → StaySo x.parts (elim o as (λ t. Parts) [ None ↦ x.parts | Some d ↦ left d.number x.parts ])
     nobodys None is = is
