@@ -1,5 +1,5 @@
 -- A life that went astray stays so, as what is due is taken, as exchanges get their places, and over a round.
-use Rattle.std.proofs.Common.{◌≡◌, refl, sym, subst, ap, ◌∙◌, inl, inr, ℕ, zero, suc, Bool, true, false, ◌==◌, cond, List, [], ◌∷◌, ◌++◌, Option, Some, None}
+use Rattle.std.proofs.Common.{◌≡◌, refl, sym, ap, ◌∙◌, inl, inr, ℕ, zero, suc, Bool, true, false, ◌==◌, cond, List, [], ◌∷◌, ◌++◌, Option, Some, None}
 use Rattle.std.specs.Prelude.{option_map}
 use Rattle.pp_desk.specs.Closings.{Sides, closed_client, closing_at, left_at, left_by_errand, left_own, sides, with_parts, withdrawn}
 use Rattle.pp_desk.specs.declared.desk.Desk.{Desk}
@@ -15,7 +15,6 @@ use Rattle.pp_objects.specs.declared.id.ObjectId.{ObjectId}
 use Rattle.pp_proxy.specs.Closing.{ClosesOver}
 use Rattle.pp_proxy.specs.Deciding.{Decides, TakesOne}
 use Rattle.pp_proxy.specs.Moving.{Moving, with_desk, with_state}
-use Rattle.pp_proxy.specs.Rounds.{GoesRound}
 use Rattle.pp_proxy.specs.Taking.{TakesDueOf, who_at}
 use Rattle.pp_seats.specs.Decided.{with_interim}
 use Rattle.pp_seats.specs.declared.due.Due.{Due}
@@ -26,7 +25,7 @@ use Rattle.pp_state.specs.declared.state.State.{State as Turn}
 use Rattle.pp_steps.specs.Evicting.{given_way, row_in_way, without_row}
 use Rattle.pp_store.specs.Kept.{KeptMap}
 use Rattle.pp_turns_law.specs.Firsts.{FirstDueInMemory, HasRowInMemory, IsDueInMemory}
-use Rattle.pp_take.specs.Deciding.{Ask, Does, Takes, accounted, afforded, aim_for, answered_at, ask_at, asked_by, asked_with, exchange_begun, followed_at, followed_by, following, is_pass, is_served_by, left_all, left_if_useless, left_useless, marked_at, marked_for, origin_asked, relayed, row_at, row_followed}
+use Rattle.pp_take.specs.Deciding.{Ask, Does, accounted, afforded, aim_for, answered_at, ask_at, asked_by, asked_with, exchange_begun, followed_at, followed_by, following, is_pass, is_served_by, left_all, left_if_useless, left_useless, marked_at, marked_for, origin_asked, row_at, row_followed}
 use Rattle.pp_world.specs.Log.{Log}
 use Rattle.pp_world.specs.declared.note.Decision.{Decision}
 use Rattle.pp_world.specs.declared.note.Decision.TheVariants.{Refuse, Hit, Part, Head, NotModified, Unsatisfiable, Relay, Validate, Fetch, Pass}
