@@ -145,7 +145,7 @@ module _ (number : ℕ → ℕ) (l : Leaving) (peers : List Peer) (shelf : KeptM
         ∙ ap (λ (n : ℕ). let j : Memory = record (with_row id key e.version kept.entry.fields e.times m) { extents = kept_to id n m.extents } in j) like.extent
 
     busy : AreBusy number m s (busy_rows p.flow)
-    busy = busies number p.name.items l peers (record { seats = p.seats.items; flow = p.flow; cache = m; refused = p.refused }) s shows.turn.steps shows.may.busy
+    busy = busies number p.name.items l peers (record { seats = p.seats.items; flow = p.flow; cache = m; refused = p.refused; is_astray = p.is_astray }) s shows.turn.steps shows.may.busy
 
     cache_then : ShowsCache after (give_way key (busy_rows p.flow) m1) t
     cache_then =
@@ -284,12 +284,31 @@ module _ (number : ℕ → ℕ) (l : Leaving) (peers : List Peer) (shelf : KeptM
       none_over : (n : ℕ) → n ≤ 1024 → nat_lt 1024 n ≡ false
       none_over n few = grind (arith, nat_tests)
 
-  nothing : (key : Bytes) (q r : Turn) → r ≡ p → q ≡ with_room_if_over r → kept_alone key shelf m ≡ None → IsAmidRead l peers shelf q (enter key true s)
-  nothing key q r same is_q none =
-      subst (λ (u : State). IsAmidRead l peers shelf q u) (sym (law (row s key) refl)) (subst (λ (y : Turn). IsAmidRead l peers shelf y s) (sym all) (record { number = number; shows = shows }))
+  -- the law has nothing of whether this life went astray
+  astray_shows : (b : Bool) → ShowsRead number l peers shelf (record p { is_astray = b }) s
+  astray_shows b = record {
+    turn = record {
+      steps = record { shows = shows.turn.steps.shows; order = shows.turn.steps.order; told = shows.turn.steps.told; refused = shows.turn.steps.refused };
+      name = shows.turn.name;
+      shares = shows.turn.shares;
+      clock = shows.turn.clock;
+      ticked = shows.turn.ticked;
+      stopped = shows.turn.stopped;
+      bounded = shows.turn.bounded;
+    };
+    disk = shows.disk;
+    may = record { few = shows.may.few; busy = shows.may.busy; given = shows.may.given };
+    forgotten = shows.forgotten;
+  }
+
+  nothing : (b : Bool) (key : Bytes) (q r : Turn) → r ≡ record p { is_astray = b } → q ≡ with_room_if_over r → kept_alone key shelf m ≡ None → IsAmidRead l peers shelf q (enter key true s)
+  nothing b key q r same is_q none =
+      subst (λ (u : State). IsAmidRead l peers shelf q u) (sym (law (row s key) refl)) (subst (λ (y : Turn). IsAmidRead l peers shelf y s) (sym all) (record { number = number; shows = astray_shows b }))
     where
-      all : q ≡ p
-      all = is_q ∙ ap (λ (y : Turn). with_room_if_over y) same ∙ ap (λ (b : Bool). elim b as (λ c. Turn) [ true ↦ with_room p | false ↦ p ]) few_now
+      all : q ≡ record p { is_astray = b }
+      all =
+          is_q ∙ ap (λ (y : Turn). with_room_if_over y) same
+          ∙ ap (λ (c : Bool). elim c as (λ d. Turn) [ true ↦ with_room (record p { is_astray = b }) | false ↦ record p { is_astray = b } ]) few_now
 
       none_by : (o : Option Entry) → AreBoth IsKeptAs None o → o ≡ None
       none_by None both = refl
@@ -328,7 +347,7 @@ module _ (number : ℕ → ℕ) (l : Leaving) (peers : List Peer) (shelf : KeptM
       some kept (Some e) alone is both enters = comes_in key r.cache kept e enters alone is both room q (is_q ∙ ap (λ (y : Turn). with_room_if_over y) mid_is) bounded
 
       by : (o : Option Kept) → kept_alone key shelf m ≡ o → IsBrought key o m r.cache → IsAmidRead l peers shelf q (enter key true s)
-      by None is same = nothing key q r (mid_is ∙ ap (λ (k : Memory). let z : Turn = record p { cache = k } in z) same) is_q is
+      by None is same = nothing p.is_astray key q r (mid_is ∙ ap (λ (k : Memory). let z : Turn = record p { cache = k } in z) same) is_q is
       by (Some kept) is enters =
           let alone : row s key ≡ None = alone_if key kept is in
           let same : kept_alone key shelf m ≡ (elim (list_any (bytes_eq (name_of key)) m.outdated) as (λ c. Option Kept) [ true ↦ None | false ↦ kept_in_store key shelf ]) =
@@ -340,7 +359,7 @@ come_in number l peers shelf key p q s shows room it given bounded = by it.comes
   where
     by : (comes : MayCome shelf key p it.entered) → IsGivenRow shelf key p it.entered comes → IsAmidRead l peers shelf q (enter key true s)
     by (inl comes) given = by_comes number l peers shelf p s shows key q it.entered room comes it.room bounded
-    by (inr stays) none = nothing number l peers shelf p s shows key q it.entered stays it.room none
+    by (inr stays) none = nothing number l peers shelf p s shows true key q it.entered stays it.room none
 
 pub brought : RowsAreBroughtAsTheLaws
 unfolding bring_row
