@@ -11,8 +11,9 @@ use Rattle.pp_law.specs.Deciding.{add_exchange, ask_as, ask_for, ask_origin, ask
 use Rattle.pp_law.specs.Decisions.{kind_of}
 use Rattle.pp_law.specs.Lists.{change, is_some_with, is_this}
 use Rattle.pp_law.specs.Requests.{Front, Parsed, NoHeadYet, NoHead, IsRequest, key_in}
-use Rattle.pp_law.specs.Stages.{is_headed}
-use Rattle.pp_law.specs.State.{State, Client, Exchange, Instance, Stage, Waiting, Passing}
+use Rattle.pp_valid.specs.declared.version.Version.{Version}
+use Rattle.pp_law.specs.Stages.{filled_of, is_headed}
+use Rattle.pp_law.specs.State.{State, Aim, Through, Own, Filling, Client, Exchange, Instance, Stage, Waiting, Passing}
 use Rattle.pp_law.specs.Table.{row_for}
 use Rattle.pp_laws.specs.Runs.{IsIn}
 use Rattle.pp_laws.proofs.Lists.{Changed, in_change, in_filter, other, same}
@@ -21,7 +22,7 @@ use Rattle.pp_laws.proofs.Tests.{number_same, same_number}
 use Rattle.pp_laws_turn.proofs.Cases.{each_of}
 use Rattle.pp_laws_turn.proofs.Rows.{swept-keeps}
 use Rattle.pp_laws_turn.proofs.View.{Holds, facts_of, holds}
-use Rattle.pp_laws_coming.specs.Coming.{is_waiting}
+use Rattle.pp_laws_coming.specs.Coming.{is_waiting, may_have_ask}
 use Rattle.pp_laws_coming.proofs.Alone.{NoneIsOf, all_count, leave_come, none_is_of, push_come}
 use Rattle.pp_laws_coming.proofs.Facts.{Coming, IsTold, Settled, rows}
 use Rattle.pp_laws_coming.proofs.Stays.{client_but, unsourced}
@@ -68,6 +69,15 @@ pass_waits : (pass : Bool) → is_waiting (elim pass as (λ t. Stage) [ true ↦
 pass_waits true = refl
 pass_waits false = refl
 
+pass_stands : (pass : Bool) → may_have_ask (elim pass as (λ t. Stage) [ true ↦ Passing | false ↦ Waiting ]) ≡ true
+pass_stands true = refl
+pass_stands false = refl
+
+-- it fills no hole
+pass_fills : (pass : Bool) → (elim (elim pass as (λ t. Aim) [ true ↦ Through | false ↦ Own ]) as (λ t. Option Version) [ Through ↦ None | Own ↦ None | Filling v from to ↦ Some v ]) ≡ None
+pass_fills true = refl
+pass_fills false = refl
+
 pass_sourced : (pass : Bool) → source_in (elim pass as (λ t. Stage) [ true ↦ Passing | false ↦ Waiting ]) ≡ None
 pass_sourced true = refl
 pass_sourced false = refl
@@ -75,11 +85,13 @@ pass_sourced false = refl
 asking_settled : (xs : List Instance) (next_row : ℕ) (d : Decision) (c : Client) → Settled xs next_row (asking_with d c)
 asking_settled xs next_row d c = unsourced xs next_row (asking_with d c) (pass_sourced (is_pass d))
 
-asking_told : (xs : List Instance) (e : Exchange) (d : Decision) (c : Client) → key_in c.front ≡ Some e.key → IsTold xs e (asking_with d c)
-asking_told xs e d c key = record {
+asking_told : (xs : List Instance) (e : Exchange) (d : Decision) (c : Client) → filled_of e ≡ None → key_in c.front ≡ Some e.key → IsTold xs e (asking_with d c)
+asking_told xs e d c none key = record {
   waits = λ fills off. record { stage = pass_waits (is_pass d); brought = refl };
   untold = λ off. refl;
   coming = refl;
+  stands = pass_stands (is_pass d);
+  fills = λ v is. let both : None ≡ Some v = sym none ∙ is in absurd (cc both);
   key = key;
   bound = λ fills x i follows. (let both : None ≡ Some x.id = sym (pass_sourced (is_pass d)) ∙ follows.source in absurd (cc both));
 }
@@ -95,7 +107,7 @@ ask_for-comes c d head key kind s keyed there h =
     told x is (same j isnt) = let both : true ≡ false = sym (number_same c.number) ∙ ap (λ (n : ℕ). n == c.number) (sym is) ∙ isnt in absurd (cc both)
     told x is (other y j hit eq) =
         let one : y ≡ c = (facts_of h).callers y c j there (same_number y.number c.number hit) in
-        subst (λ (z : Client). IsTold s.instances (new_exchange s c head key d kind) z) (sym eq) (asking_told s.instances (new_exchange s c head key d kind) d y (ap (λ (z : Client). key_in z.front) one ∙ keyed))
+        subst (λ (z : Client). IsTold s.instances (new_exchange s c head key d kind) z) (sym eq) (asking_told s.instances (new_exchange s c head key d kind) d y (pass_fills (is_pass d)) (ap (λ (z : Client). key_in z.front) one ∙ keyed))
 
 ask_as-comes : {late : Bool} → (c : Client) (d : Decision) (head : Request) (key : Key) (s : State) → key_in c.front ≡ Some key → IsIn c s.clients → Holds (Coming late) s → Holds (Coming late) (ask_as c d head key s)
 unfolding ask_as

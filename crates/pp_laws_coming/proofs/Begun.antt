@@ -17,7 +17,7 @@ use Rattle.pp_laws.proofs.Tests.{first_holds, same_number, second_holds}
 use Rattle.pp_laws_turn.proofs.Rows.{swept-keeps}
 use Rattle.pp_laws_turn.proofs.Same.{begun_at_end-same}
 use Rattle.pp_laws_turn.proofs.View.{Holds, SameClient, facts_of}
-use Rattle.pp_laws_coming.specs.Coming.{Waits, is_waiting}
+use Rattle.pp_laws_coming.specs.Coming.{Waits, is_waiting, may_have_ask}
 use Rattle.pp_laws_coming.proofs.Alone.{MayLeave}
 use Rattle.pp_laws_coming.proofs.Asks.{early_fills}
 use Rattle.pp_laws_coming.proofs.Clients.{all_clients-comes, forsake-comes}
@@ -57,22 +57,24 @@ still_begun s c w = by c.is_closing
 record Keeps (d c : Client) : Type 0 where
   number : d.number ≡ c.number
   brought : d.brought ≡ c.brought
+  stands : may_have_ask c.stage ≡ true → may_have_ask d.stage ≡ true
+  answers : is_waiting c.stage ≡ false → is_waiting d.stage ≡ false
 
 keeps_it : (c : Client) → Keeps c c
-keeps_it c = record { number = refl; brought = refl }
+keeps_it c = record { number = refl; brought = refl; stands = λ is. is; answers = λ off. off }
 
 passed_keeps : (s : State) (r : Parsed) (d : Decision) (c : Client) → Keeps (begun_passed s r d c) c
 passed_keeps s r d c = by (passed_of c)
   where
     by : (o : Option Passed) → Keeps (elim o as (λ x. Client) [ None ↦ c | Some p ↦ record c { stage = Answering (passed_reply s r p d); closes = not (keeps_open r && is_end_known p.rule r.head.minor) } ]) c
     by None = keeps_it c
-    by (Some p) = record { number = refl; brought = refl }
+    by (Some p) = record { number = refl; brought = refl; stands = λ is. refl; answers = λ off. refl }
 
 instance_keeps : (s : State) (r : Parsed) (reply : Reply) (c : Client) → Keeps (begun_instance s r reply c) c
 instance_keeps s r reply c = by (source_of s reply)
   where
     at : (x : Instance) (b : Bool) → Keeps (elim b as (λ y. Client) [ true ↦ record c { stage = Answering (begun_reply s r c reply x) } | false ↦ c ]) c
-    at x true = record { number = refl; brought = refl }
+    at x true = record { number = refl; brought = refl; stands = λ is. refl; answers = λ off. refl }
     at x false = keeps_it c
 
     by : (o : Option Instance) → Keeps (elim o as (λ y. Client) [ None ↦ c | Some x ↦ elim (may_begin s reply x) as (λ y. Client) [ true ↦ record c { stage = Answering (begun_reply s r c reply x) } | false ↦ c ] ]) c
@@ -126,6 +128,8 @@ begun_goes s c = record {
   stays = record { number = (begun_keeps s c).number; source = (begun_at_end-same s c).source; front = front_same _ c (begun_at_end-same s c); untold = λ none. ap passed_in (begun_keeps s c).brought ∙ none };
   waits = λ w. subst (λ (x : Client). Waits x) (sym (still_begun s c w)) w;
   coming = λ is. ap whole_in (begun_keeps s c).brought ∙ is;
+  stands = λ is. (begun_keeps s c).stands is;
+  answers = λ off. (begun_keeps s c).answers off;
 }
 
 any_in : (p : Client → Bool) (cs : List Client) → list_any p cs ≡ true → (c : Client) × IsIn c cs × (p c ≡ true)

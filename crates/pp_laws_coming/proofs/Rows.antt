@@ -28,6 +28,8 @@ fewer_rows test cs es next xs next_row h = record {
     waits = told.waits;
     untold = told.untold;
     coming = told.coming;
+    stands = told.stands;
+    fills = told.fills;
     key = told.key;
     bound = λ fills x k follows. told.bound fills x (in_filter test x xs k).0 follows;
   };
@@ -108,6 +110,8 @@ row_out {late} id cs es next xs next_row whole = record {
       waits = λ fills off. told.waits (sym r.fills ∙ fills) (sym r.headed ∙ off);
       untold = λ off. told.untold (sym r.headed ∙ off);
       coming = told.coming;
+      stands = told.stands;
+      fills = λ v is. told.fills v (sym r.fills ∙ is);
       key = told.key ∙ ap (λ k. Some k) (sym r.key);
       bound = λ fills x k follows. (
           let b = told.bound (sym r.fills ∙ fills) x k follows in

@@ -15,7 +15,7 @@ use Rattle.pp_laws_turn.proofs.Cases.{each_so, when}
 use Rattle.pp_laws_turn.proofs.Clients.{HasPlace}
 use Rattle.pp_laws_turn.proofs.Same.{said_by-same}
 use Rattle.pp_laws_turn.proofs.View.{Holds, SameClient}
-use Rattle.pp_laws_coming.specs.Coming.{IsComing, Waits, is_waiting}
+use Rattle.pp_laws_coming.specs.Coming.{IsComing, Waits, is_waiting, may_have_ask}
 use Rattle.pp_laws_coming.proofs.Asks.{as_it_was, same_bound}
 use Rattle.pp_laws_coming.proofs.Begun.{front_same, whole_in}
 use Rattle.pp_laws_coming.proofs.Clients.{close_client-comes, on_client-comes, on_client_of-comes, on_exchange-comes}
@@ -63,6 +63,8 @@ passed_goes f ends c = by c.brought refl
       stays = record { number = refl; source = λ id at. at; front = λ key at. at; untold = λ none. (let both : None ≡ Some p = sym none ∙ ap passed_in is in absurd (cc both)) };
       waits = λ w. absurd (cc (sym is ∙ w.brought));
       coming = λ more. ends p ∙ sym (ap whole_in is) ∙ more;
+      stands = λ on. on;
+      answers = λ off. off;
     }
 
 -- where something is said of its reply
@@ -70,6 +72,8 @@ record Said (d c : Client) : Type 0 where
   untold : passed_of c ≡ None → passed_of d ≡ None
   waits : Waits c → Waits d
   coming : IsComing c → IsComing d
+  stands : may_have_ask c.stage ≡ true → may_have_ask d.stage ≡ true
+  answers : is_waiting c.stage ≡ false → is_waiting d.stage ≡ false
 
 said_so : (n : ℕ) (c : Client) → Said (said_by n c) c
 said_so n c = by (is_empty c.interim_left) c.stage refl
@@ -77,34 +81,34 @@ said_so n c = by (is_empty c.interim_left) c.stage refl
     replies_in : Stage → Option Reply
     replies_in stage = elim stage as (λ y. Option Reply) [ Undecided ↦ None | Waiting ↦ None | Passing ↦ None | Answering r ↦ Some r ]
 
-    body_goes : (m : ℕ) (r : Reply) → (b : Bool) → (is_waiting c.stage ≡ true → ⊥)
+    body_goes : (m : ℕ) (r : Reply) → (b : Bool) → (is_waiting c.stage ≡ true → ⊥) → (may_have_ask c.stage ≡ true → may_have_ask (Answering r) ≡ true)
         → Said (elim b as (λ x. Client) [ true ↦ on_passed (shorter m) (record c { stage = Answering r }) | false ↦ record c { stage = Answering (record r { at = r.at + m }) } ]) c
-    body_goes m r true out =
+    body_goes m r true out stood =
         let g : Goes (on_passed (shorter m) (record c { stage = Answering r })) (record c { stage = Answering r }) = passed_goes (shorter m) (λ p. refl) (record c { stage = Answering r }) in
-        record { untold = g.stays.untold; waits = λ w. absurd (out w.stage); coming = g.coming }
-    body_goes m r false out = record { untold = λ none. none; waits = λ w. absurd (out w.stage); coming = λ is. is }
+        record { untold = g.stays.untold; waits = λ w. absurd (out w.stage); coming = g.coming; stands = λ on. g.stands (stood on); answers = λ off. g.answers refl }
+    body_goes m r false out stood = record { untold = λ none. none; waits = λ w. absurd (out w.stage); coming = λ is. is; stands = stood; answers = λ off. refl }
 
-    reply_goes : (r : Reply) (b : Bool) → (is_waiting c.stage ≡ true → ⊥)
+    reply_goes : (r : Reply) (b : Bool) → (is_waiting c.stage ≡ true → ⊥) → (may_have_ask c.stage ≡ true → may_have_ask (Answering r) ≡ true)
         → Said (elim b as (λ x. Client) [ true ↦ record c { stage = Answering (record r { head_left = drop n r.head_left }) } | false ↦ said_of_body (n - length r.head_left) (record r { head_left = [] }) c ]) c
-    reply_goes r true out = record { untold = λ none. none; waits = λ w. absurd (out w.stage); coming = λ is. is }
-    reply_goes r false out = body_goes (n - length r.head_left) (record r { head_left = [] }) (is_passing r.decision) out
+    reply_goes r true out stood = record { untold = λ none. none; waits = λ w. absurd (out w.stage); coming = λ is. is; stands = stood; answers = λ off. refl }
+    reply_goes r false out stood = body_goes (n - length r.head_left) (record r { head_left = [] }) (is_passing r.decision) out stood
 
     as_is : Said c c
-    as_is = record { untold = λ none. none; waits = λ w. w; coming = λ is. is }
+    as_is = record { untold = λ none. none; waits = λ w. w; coming = λ is. is; stands = λ on. on; answers = λ off. off }
 
     by : (b : Bool) (stage : Stage) → c.stage ≡ stage
         → Said (elim b as (λ x. Client) [ false ↦ record c { interim_left = drop n c.interim_left } | true ↦ elim (replies_in stage) as (λ x. Client) [ None ↦ c | Some r ↦ said_of n r c ] ]) c
-    by false stage is = record { untold = λ none. none; waits = λ w. record { stage = w.stage; brought = w.brought }; coming = λ is. is }
+    by false stage is = record { untold = λ none. none; waits = λ w. record { stage = w.stage; brought = w.brought }; coming = λ is. is; stands = λ on. on; answers = λ off. off }
     by true Undecided is = as_is
     by true Waiting is = as_is
     by true Passing is = as_is
-    by true (Answering r) is = reply_goes r (nat_le n (length r.head_left)) (λ waits. let both : false ≡ true = ap is_waiting (sym is) ∙ waits in cc both)
+    by true (Answering r) is = reply_goes r (nat_le n (length r.head_left)) (λ waits. let both : false ≡ true = ap is_waiting (sym is) ∙ waits in cc both) (λ on. ap may_have_ask (sym is) ∙ on)
 
 said_goes : (n : ℕ) (c : Client) → Goes (said_by n c) c
 said_goes n c =
     let kept : SameClient (said_by n c) c = said_by-same n c in
     let said : Said (said_by n c) c = said_so n c in
-    record { stays = record { number = kept.number; source = kept.source; front = front_same _ c kept; untold = said.untold }; waits = said.waits; coming = said.coming }
+    record { stays = record { number = kept.number; source = kept.source; front = front_same _ c kept; untold = said.untold }; waits = said.waits; coming = said.coming; stands = said.stands; answers = said.answers }
 
 pub say-comes : {late : Bool} → (c n : ℕ) (s : State) → Holds (Coming late) s → Holds (Coming late) (on_client c (said_by n) s)
 say-comes c n s h = on_client-comes c (said_by n) s (λ x. (said_goes n x).stays.number) (λ x i hit. said_goes n x) h

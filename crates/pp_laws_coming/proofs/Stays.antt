@@ -10,7 +10,7 @@ use Rattle.pp_laws.specs.Runs.{IsIn}
 use Rattle.pp_laws.proofs.Lists.{Changed, changed_at, in_change, in_map, other, same}
 use Rattle.pp_laws.proofs.Sound.{source_in}
 use Rattle.pp_laws.proofs.Tests.{same_number}
-use Rattle.pp_laws_coming.specs.Coming.{IsComing, Waits, is_waiting}
+use Rattle.pp_laws_coming.specs.Coming.{IsComing, Waits, is_waiting, may_have_ask}
 use Rattle.pp_laws_coming.proofs.Facts.{Facts, Follows, IsTold, Settled}
 
 -- ---- clients
@@ -27,12 +27,14 @@ pub record Goes (d c : Client) : Type 0 where
   pub stays : Stays d c
   pub waits : Waits c → Waits d
   pub coming : IsComing c → IsComing d
+  pub stands : may_have_ask c.stage ≡ true → may_have_ask d.stage ≡ true
+  pub answers : is_waiting c.stage ≡ false → is_waiting d.stage ≡ false
 
 pub stays_on : (c : Client) → Stays c c
 stays_on c = record { number = refl; source = λ id is. is; front = λ key is. is; untold = λ none. none }
 
 pub goes_on : (c : Client) → Goes c c
-goes_on c = record { stays = stays_on c; waits = λ w. w; coming = λ is. is }
+goes_on c = record { stays = stays_on c; waits = λ w. w; coming = λ is. is; stands = λ is. is; answers = λ off. off }
 
 abbrev pub passed_in : Brought → Option Passed
 passed_in b = elim b as (λ x. Option Passed) [ Awaited ↦ None | Useless ↦ None | Joins id plain ↦ None | Passes p ↦ Some p | TooWide ↦ None ]
@@ -46,6 +48,8 @@ goes_at d c number front stage brought = record {
   stays = record { number = number; source = λ id is. sym (ap source_in stage) ∙ is; front = front; untold = λ none. ap passed_in brought ∙ none };
   waits = λ w. record { stage = ap is_waiting stage ∙ w.stage; brought = brought ∙ w.brought };
   coming = λ is. ap is_whole_in brought ∙ is;
+  stands = λ is. ap may_have_ask stage ∙ is;
+  answers = λ off. ap is_waiting stage ∙ off;
 }
 
 pub goes_as : (d c : Client) → d.number ≡ c.number → d.front ≡ c.front → d.stage ≡ c.stage → d.brought ≡ c.brought → Goes d c
@@ -76,6 +80,8 @@ told_on xs e d c goes told = record {
   waits = λ fills off. goes.waits (told.waits fills off);
   untold = λ off. goes.stays.untold (told.untold off);
   coming = goes.coming told.coming;
+  stands = goes.stands told.stands;
+  fills = λ v is. goes.answers (told.fills v is);
   key = goes.stays.front e.key told.key;
   bound = λ fills x i follows. told.bound fills x i (follows_on x d c goes.stays follows);
 }

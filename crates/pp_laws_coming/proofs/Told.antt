@@ -87,6 +87,8 @@ module _ (e : Exchange) (body : Body) (come : is_pending body ≡ false) (cs : L
             waits = λ fills unheaded. told.waits (sym r.fills ∙ fills) (sym as_was.0 ∙ unheaded);
             untold = λ unheaded. told.untold (sym as_was.0 ∙ unheaded);
             coming = told.coming;
+            stands = told.stands;
+            fills = λ v is. told.fills v (sym r.fills ∙ is);
             key = key;
             bound = λ fills x k follows. (
                 let b = told.bound (sym r.fills ∙ fills) x k follows in
@@ -97,6 +99,8 @@ module _ (e : Exchange) (body : Body) (come : is_pending body ≡ false) (cs : L
             waits = λ fills unheaded. (let both : true ≡ false = sym at.1 ∙ unheaded in absurd (cc both));
             untold = λ unheaded. (let both : true ≡ false = sym at.1 ∙ unheaded in absurd (cc both));
             coming = told.coming;
+            stands = told.stands;
+            fills = λ v is. told.fills v (sym r.fills ∙ is);
             key = key;
             bound = λ fills x k follows. absurd ((keyed n c x (ap (λ (y : Exchange). y.asker) (sym at.0) ∙ asks) j is k follows).0 (ap filled_of (sym at.0) ∙ sym r.fills ∙ fills));
           }
@@ -152,6 +156,8 @@ module _ (e : Exchange) (body : Body) (come : is_pending body ≡ false) (cs : L
             waits = λ fills unheaded. (let both : true ≡ false = sym (its_headed d n i asks its) ∙ unheaded in absurd (cc both));
             untold = λ unheaded. (let both : true ≡ false = sym (its_headed d n i asks its) ∙ unheaded in absurd (cc both));
             coming = more;
+            stands = before.stands;
+            fills = before.fills;
             key = before.key;
             bound = λ fills y k follows. before.bound fills y k (record { stands = follows.stands; source = follows.source });
           })

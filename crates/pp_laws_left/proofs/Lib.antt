@@ -4,3 +4,15 @@ pub mod Choices
 pub mod Steps
 pub mod Turns
 pub mod Laws
+pub mod KeepCases
+pub mod Keep
+pub mod KeepRows
+pub mod KeepAsks
+pub mod KeepHeads
+pub mod KeepTurns
+pub mod Spoken
+pub mod SpokenBegins
+pub mod SpokenEnds
+pub mod SpokenChoices
+pub mod SpokenHappenings
+pub mod SpokenLaws

@@ -2,11 +2,12 @@
 use Rattle.std.specs.Prelude.{◌≡◌, ◌⊎◌, ℕ, ◌≤◌, nat_lt, true, false, List, is_some}
 use Rattle.pp_world.specs.Log.{Log}
 use Rattle.pp_law.specs.Phases.{come_to}
+use Rattle.pp_law.specs.Replies.{is_said}
 use Rattle.pp_law.specs.Requests.{NoHead}
 use Rattle.pp_law.specs.Stages.{is_begun, is_followed_by, is_passing, is_undecided, passed_of}
 use Rattle.pp_law.specs.State.{State, DecidingAgain, Term, Client, Reply, Answering}
 use Rattle.pp_laws.specs.Runs.{IsIn}
-use Rattle.pp_laws_served.specs.Served.{IsReply, is_by_row}
+use Rattle.pp_laws_served.specs.Served.{IsReply, MayEnd, is_by_row}
 use Rattle.pp_obeys.specs.Obeys.{Obeys}
 
 -- a reply that was decided: what `IsReply` of `pp_laws_served` has, but that one that is passed has its response
@@ -34,3 +35,21 @@ TurnsAreLeft = (terms : List Term) (s : State) (log : Log) → Obeys terms s log
 -- and in that in which a turn ends, before replies begin
 abbrev pub EndsAreLeft : Type 0
 EndsAreLeft = (terms : List Term) (s : State) (log : Log) → Obeys terms s log → IsLeftOn (come_to DecidingAgain s)
+
+-- ---- what is said, and what is passed
+
+-- of whoever goes on: a reply that was said whole is over, and one that is passed has its response
+pub record IsSpoken (s : State) : Type 0 where
+  pub unsaid : (c : Client) → IsIn c s.clients → c.is_closing ≡ false → is_said c ≡ false
+  pub replies : (c : Client) (r : Reply) → IsIn c s.clients → c.is_closing ≡ false → c.stage ≡ Answering r → IsReply c r
+
+abbrev pub TurnsAreSpoken : Type 0
+TurnsAreSpoken = (terms : List Term) (s : State) (log : Log) → Obeys terms s log → IsSpoken s
+
+-- so it is of everybody where a turn may end, as nobody is closing there: the fields `unsaid` and `replies` of `IsLeft`
+pub record IsSpokenAll (t : State) : Type 0 where
+  pub unsaid : (c : Client) → IsIn c t.clients → is_said c ≡ false
+  pub replies : (c : Client) (r : Reply) → IsIn c t.clients → c.stage ≡ Answering r → IsReply c r
+
+abbrev pub EndsAreSpoken : Type 0
+EndsAreSpoken = (terms : List Term) (s : State) (log : Log) → MayEnd terms s log → IsSpokenAll (come_to DecidingAgain s)
