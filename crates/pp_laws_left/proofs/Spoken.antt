@@ -46,7 +46,7 @@ said_in interim stage whole = is_empty interim
 said_as : (c : Client) → is_said c ≡ said_in c.interim_left c.stage (is_whole (passed_of c))
 said_as c = refl
 
-whole_pipe : Option Pipe → Bool
+abbrev whole_pipe : Option Pipe → Bool
 whole_pipe None = false
 whole_pipe (Some pipe) = pipe.is_finished && is_empty pipe.bytes
 
@@ -67,30 +67,30 @@ same_some o p is = sym (some_by o) ∙ ap (λ (x : Option Pipe). is_some x) is �
 -- ---- where nothing is told
 
 going : {exact : Bool} (d c : Client) → Kept exact d c → d.is_closing ≡ false → c.is_closing ≡ false
-going d c k open = no_test c.is_closing (λ is. let both : true ≡ false = sym (k.closing is) ∙ open in cc both)
+going d c k runs = no_test c.is_closing (λ is. let both : true ≡ false = sym (k.closing is) ∙ runs in cc both)
 
 pub unsaid_on : (d c : Client) → Kept true d c → d.is_closing ≡ false → (c.is_closing ≡ false → is_said c ≡ false) → is_said d ≡ false
-unsaid_on d c k open off =
+unsaid_on d c k runs off =
     ap (λ i. said_in i d.stage (is_whole (passed_of d))) k.interim
     ∙ ap (λ g. said_in c.interim_left g (is_whole (passed_of d))) k.stage
     ∙ ap (λ w. said_in c.interim_left c.stage w) (same_whole (passed_of d) (passed_of c) (k.pipe refl))
-    ∙ off (going d c k open)
+    ∙ off (going d c k runs)
 
 pub speaks_on : {looks : Bool} {At Was : Type 0} (d c : Client) → (At → Was) → Kept true d c → Speaks looks Was c → Speaks looks At d
 speaks_on d c was k h = record {
-  unsaid = λ is open. unsaid_on d c k open (h.unsaid is);
-  passed = λ open r is. same_some (passed_of d) (passed_of c) (k.pipe refl) ∙ h.passed (going d c k open) r (sym k.stage ∙ is.0, is.1);
-  begun = λ at open r is. h.begun (was at) (going d c k open) r (sym k.stage ∙ is.0, is.1);
+  unsaid = λ is runs. unsaid_on d c k runs (h.unsaid is);
+  passed = λ runs r is. same_some (passed_of d) (passed_of c) (k.pipe refl) ∙ h.passed (going d c k runs) r (sym k.stage ∙ is.0, is.1);
+  begun = λ at runs r is. h.begun (was at) (going d c k runs) r (sym k.stage ∙ is.0, is.1);
 }
 
 -- where something comes, each reply that is passed has begun
 pub speaks_got : {looks : Bool} {At Was : Type 0} (d c : Client) → Was → Kept false d c → Speaks looks Was c → Speaks false At d
 speaks_got d c was k h = record {
   unsaid = λ is. absurd (cc is);
-  passed = λ open r is.
+  passed = λ runs r is.
       let at : Passes c r = (sym k.stage ∙ is.0, is.1) in
-      k.passed (ap begun_in at.0 ∙ h.begun was (going d c k open) r at) ∙ h.passed (going d c k open) r at;
-  begun = λ at open r is. h.begun was (going d c k open) r (sym k.stage ∙ is.0, is.1);
+      k.passed (ap begun_in at.0 ∙ h.begun was (going d c k runs) r at) ∙ h.passed (going d c k runs) r at;
+  begun = λ at runs r is. h.begun was (going d c k runs) r (sym k.stage ∙ is.0, is.1);
 }
 
 -- ---- a reply goes on
@@ -98,12 +98,12 @@ speaks_got d c was k h = record {
 -- of the same decision, begun where it had
 pub restaged : {looks : Bool} {At : Type 0} (d c : Client) (q r : Reply) → c.stage ≡ Answering r → d.stage ≡ Answering q → q.decision ≡ r.decision → q.has_begun ≡ r.has_begun → (d.is_closing ≡ false → c.is_closing ≡ false) → is_some (passed_of d) ≡ is_some (passed_of c)
     → Speaks looks At c → Speaks false At d
-restaged d c q r stood now decision begun open some h = record {
+restaged d c q r stood now decision begun runs some h = record {
   unsaid = λ is. absurd (cc is);
-  passed = λ goes p is. some ∙ h.passed (open goes) r (stood, ap is_passing (sym decision ∙ ap (λ (x : Reply). x.decision) (one_reply (sym now ∙ is.0))) ∙ is.1);
+  passed = λ goes p is. some ∙ h.passed (runs goes) r (stood, ap is_passing (sym decision ∙ ap (λ (x : Reply). x.decision) (one_reply (sym now ∙ is.0))) ∙ is.1);
   begun = λ at goes p is.
       let one : q ≡ p = one_reply (sym now ∙ is.0) in
-      ap (λ (x : Reply). x.has_begun) (sym one) ∙ begun ∙ h.begun at (open goes) r (stood, ap is_passing (sym decision ∙ ap (λ (x : Reply). x.decision) one) ∙ is.1);
+      ap (λ (x : Reply). x.has_begun) (sym one) ∙ begun ∙ h.begun at (runs goes) r (stood, ap is_passing (sym decision ∙ ap (λ (x : Reply). x.decision) one) ∙ is.1);
 }
 
 piped_some : (f : Passed → Passed) (c : Client) → is_some (passed_of (on_passed f c)) ≡ is_some (passed_of c)
@@ -137,8 +137,8 @@ body_speaks {looks} {At} n q r c stood decision begun h = by (is_passing q.decis
       | true ↦ on_passed (λ p. record p { pipe = without_first n p.pipe }) (record c { stage = Answering q })
       | false ↦ record c { stage = Answering (record q { at = q.at + n }) }
     ])
-    by true = let w = piped_stage (λ p. record p { pipe = without_first n p.pipe }) d in restaged _ c q r stood w.0 decision begun (λ open. sym w.1 ∙ open) (piped_some (λ p. record p { pipe = without_first n p.pipe }) d) h
-    by false = restaged _ c (record q { at = q.at + n }) r stood refl decision begun (λ open. open) refl h
+    by true = let w = piped_stage (λ p. record p { pipe = without_first n p.pipe }) d in restaged _ c q r stood w.0 decision begun (λ runs. sym w.1 ∙ runs) (piped_some (λ p. record p { pipe = without_first n p.pipe }) d) h
+    by false = restaged _ c (record q { at = q.at + n }) r stood refl decision begun (λ runs. runs) refl h
 
 of_speaks : {looks : Bool} {At : Type 0} (n : ℕ) (r : Reply) (c : Client) → c.stage ≡ Answering r → Speaks looks At c → Speaks false At (said_of n r c)
 of_speaks {looks} {At} n r c stood h = by (nat_le n (length r.head_left))
@@ -147,7 +147,7 @@ of_speaks {looks} {At} n r c stood h = by (nat_le n (length r.head_left))
       | true ↦ record c { stage = Answering (record r { head_left = drop n r.head_left }) }
       | false ↦ said_of_body (n - length r.head_left) (record r { head_left = [] }) c
     ])
-    by true = restaged _ c (record r { head_left = drop n r.head_left }) r stood refl refl refl (λ open. open) refl h
+    by true = restaged _ c (record r { head_left = drop n r.head_left }) r stood refl refl refl (λ runs. runs) refl h
     by false = body_speaks (n - length r.head_left) (record r { head_left = [] }) r c stood refl refl h
 
 pub said_speaks : {looks : Bool} {At : Type 0} (n : ℕ) (c : Client) → Speaks looks At c → Speaks false At (said_by n c)

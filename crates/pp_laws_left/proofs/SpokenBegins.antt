@@ -1,5 +1,5 @@
 -- Replies that are decided, and that begin; and a request that is next.
-use Rattle.std.proofs.Common.{◌≡◌, refl, ℕ, ◌+◌, ◌-◌, Bool, true, false, not, ◌&&◌, [], drop, length, is_some, Option, Some, None, sym, subst, ap, ◌∙◌}
+use Rattle.std.proofs.Common.{◌≡◌, refl, ℕ, ◌+◌, ◌-◌, Bool, true, false, not, ◌==◌, ◌&&◌, ◌||◌, [], drop, length, is_some, Option, Some, None, sym, subst, ap, ◌∙◌}
 use Rattle.pp_reply.specs.Keeping.{is_end_known}
 use Rattle.pp_text.specs.Bytes.{is_empty}
 use Rattle.pp_world.specs.declared.note.Decision.{Decision}
@@ -33,9 +33,9 @@ off_first a b rest off = ap (λ t. a && (t && rest)) off ∙ never a
 -- in whatever phase: where nothing was decided that is passed
 pub refused_speaks : {At : Type 0} (status : ℕ) (c : Client) → Speaks true At (refused_with status c)
 refused_speaks status c = record {
-  unsaid = λ is open. never (is_empty (first_interim c));
-  passed = λ open r is. let off : false ≡ true = ap (λ (x : Reply). is_passing x.decision) (one_reply is.0) ∙ is.1 in absurd (cc off);
-  begun = λ at open r is. let off : false ≡ true = ap (λ (x : Reply). is_passing x.decision) (one_reply is.0) ∙ is.1 in absurd (cc off);
+  unsaid = λ is runs. never (is_empty (first_interim c));
+  passed = λ runs r is. let off : false ≡ true = ap (λ (x : Reply). is_passing x.decision) (one_reply is.0) ∙ is.1 in absurd (cc off);
+  begun = λ at runs r is. let off : false ≡ true = ap (λ (x : Reply). is_passing x.decision) (one_reply is.0) ∙ is.1 in absurd (cc off);
 }
 
 asks_none : (pass : Bool) → (elim (elim pass as (λ t. Stage) [ true ↦ Passing | false ↦ Waiting ]) as (λ y. Option Reply) [ Undecided ↦ None | Waiting ↦ None | Passing ↦ None | Answering r ↦ Some r ]) ≡ None
@@ -44,16 +44,16 @@ asks_none false = refl
 
 pub asking_speaks : {At : Type 0} (d : Decision) (c : Client) → Speaks true At (asking_with d c)
 asking_speaks d c = record {
-  unsaid = λ is open. none_said (first_interim c) (stage_for d) (is_whole None) (asks_none (is_pass d));
-  passed = λ open r is. absurd (waits_for d r is.0);
-  begun = λ at open r is. absurd (waits_for d r is.0);
+  unsaid = λ is runs. none_said (first_interim c) (stage_for d) (is_whole None) (asks_none (is_pass d));
+  passed = λ runs r is. absurd (waits_for d r is.0);
+  begun = λ at runs r is. absurd (waits_for d r is.0);
 }
 
 pub answering_speaks : {At : Type 0} (r : Reply) (c : Client) → (At → ⊥) → r.has_begun ≡ false → (is_passing r.decision ≡ true → is_some (passed_of c) ≡ true) → Speaks true At (answering_with r c)
 answering_speaks r c off fresh passed = record {
-  unsaid = λ is open. ap (λ t. is_empty (first_interim c) && (t && is_empty r.head_left && ((r.at == r.to) && (not (is_passing r.decision) || is_whole (passed_of c))))) fresh ∙ never (is_empty (first_interim c));
-  passed = λ open q is. passed (ap (λ (x : Reply). is_passing x.decision) (one_reply is.0) ∙ is.1);
-  begun = λ at open q is. absurd (off at);
+  unsaid = λ is runs. ap (λ t. is_empty (first_interim c) && (t && is_empty r.head_left && ((r.at == r.to) && (not (is_passing r.decision) || is_whole (passed_of c))))) fresh ∙ never (is_empty (first_interim c));
+  passed = λ runs q is. passed (ap (λ (x : Reply). is_passing x.decision) (one_reply is.0) ∙ is.1);
+  begun = λ at runs q is. absurd (off at);
 }
 
 -- ---- the next request
@@ -76,9 +76,9 @@ freed c = record c {
 
 pub none_speaks : {At : Type 0} (c : Client) → c.stage ≡ Undecided → Speaks true At c
 none_speaks c at = record {
-  unsaid = λ is open. none_said c.interim_left c.stage (is_whole (passed_of c)) (ap (λ (x : Stage). elim x as (λ y. Option Reply) [ Undecided ↦ None | Waiting ↦ None | Passing ↦ None | Answering r ↦ Some r ]) at);
-  passed = λ open r is. let both : Undecided ≡ Answering r = sym at ∙ is.0 in absurd (cc both);
-  begun = λ w open r is. let both : Undecided ≡ Answering r = sym at ∙ is.0 in absurd (cc both);
+  unsaid = λ is runs. none_said c.interim_left c.stage (is_whole (passed_of c)) (ap (λ (x : Stage). elim x as (λ y. Option Reply) [ Undecided ↦ None | Waiting ↦ None | Passing ↦ None | Answering r ↦ Some r ]) at);
+  passed = λ runs r is. let both : Undecided ≡ Answering r = sym at ∙ is.0 in absurd (cc both);
+  begun = λ w runs r is. let both : Undecided ≡ Answering r = sym at ∙ is.0 in absurd (cc both);
 }
 
 pub next_undecided : (c : Client) → (next_request c).stage ≡ Undecided
@@ -133,15 +133,15 @@ begun_same t c = by c.is_closing c.front
     by false (IsRequest q) = staged q c.stage
 
 -- one that is passed has begun behind it
-module _ {At : Type 0} (t : State) (c : Client) (h : Speaks true At c) (fine : Fine c) (open : c.is_closing ≡ false) where
+module _ {At : Type 0} (t : State) (c : Client) (h : Speaks true At c) (fine : Fine c) (runs : c.is_closing ≡ false) where
   has : (r : Reply) → c.stage ≡ Answering r → is_passing r.decision ≡ true → is_some (passed_of c) ≡ true
-  has r at on = h.passed open r (at, on)
+  has r at on = h.passed runs r (at, on)
 
   abbrev Whole : Client → Type 0
   Whole d = (r : Reply) → Passes d r → (is_some (passed_of c) ≡ true) × (r.has_begun ≡ true)
 
   stood : (stage : Stage) → c.stage ≡ stage → ((r : Reply) → stage ≡ Answering r → is_passing r.decision ≡ true → r.has_begun ≡ true) → Whole c
-  stood stage at begun r is = (has r is.0 is.1, begun r (sym at ∙ is.0) is.1)
+  stood stage at has_begun r is = (has r is.0 is.1, has_begun r (sym at ∙ is.0) is.1)
 
   passed_whole : (q : Parsed) (d : Decision) (o : Option Passed) → passed_of c ≡ o → (o ≡ None → (r : Reply) → Passes c r → ⊥)
       → Whole (elim o as (λ y. Client) [ None ↦ c | Some p ↦ record c { stage = Answering (passed_reply t q p d); closes = not (keeps_open q && is_end_known p.rule q.head.minor) } ])
@@ -194,7 +194,7 @@ module _ {At : Type 0} (t : State) (c : Client) (h : Speaks true At c) (fine : F
           begun_there (begun on) r is = ap has_begun (sym is.0) ∙ on
 
       by : (closing : Bool) → c.is_closing ≡ closing → (f : Front) → c.front ≡ f → Whole (elim closing as (λ y. Client) [ true ↦ c | false ↦ elim f as (λ y. Client) [ NoHeadYet ↦ c | NoFront status ↦ c | IsRequest q ↦ begun_by t q c ] ])
-      by true closing f at = let both : true ≡ false = sym closing ∙ open in absurd (cc both)
+      by true closing f at = let both : true ≡ false = sym closing ∙ runs in absurd (cc both)
       by false closing NoHeadYet at = placed (ap parsed_in at)
       by false closing (NoFront status) at = placed (ap parsed_in at)
       by false closing (IsRequest q) at = staged q c.stage refl
@@ -202,9 +202,9 @@ module _ {At : Type 0} (t : State) (c : Client) (h : Speaks true At c) (fine : F
 -- behind it
 pub begun_speaks : {At Then : Type 0} (t : State) (c : Client) → Fine c → (c.is_closing ≡ false → (r : Reply) → c.stage ≡ Answering r → IsReply c r) → Speaks true At c → Speaks true Then (begun_at_end t c)
 begun_speaks {At} {Then} t c fine replies h = record {
-  unsaid = λ is open. unsaid (sym s.closing ∙ open);
-  passed = λ open r is. ap (λ b. is_some (passed_in b)) s.brought ∙ (begun_whole {At = At} t c h fine (sym s.closing ∙ open) r is).0;
-  begun = λ at open r is. (begun_whole {At = At} t c h fine (sym s.closing ∙ open) r is).1;
+  unsaid = λ is runs. unsaid (sym s.closing ∙ runs);
+  passed = λ runs r is. ap (λ b. is_some (passed_in b)) s.brought ∙ (begun_whole {At = At} t c h fine (sym s.closing ∙ runs) r is).0;
+  begun = λ at runs r is. (begun_whole {At = At} t c h fine (sym s.closing ∙ runs) r is).1;
 }
   where
     s : Same (begun_at_end t c) c
@@ -214,7 +214,7 @@ begun_speaks {At} {Then} t c fine replies h = record {
     headed d head =
         ap (λ o. is_empty d.interim_left && is_some_with (λ (r : Reply). r.has_begun && is_empty r.head_left && ((r.at == r.to) && (not (is_passing r.decision) || is_whole (passed_of d)))) o) head.is
         ∙ (ap (λ b. is_empty d.interim_left && (head.reply.has_begun && b && ((head.reply.at == head.reply.to) && (not (is_passing head.reply.decision) || is_whole (passed_of d))))) head.head
-        ∙ (ap (λ b. is_empty d.interim_left && b) (never head.reply.has_begun) ∙ never (is_empty d.interim_left)))
+        ∙ (ap (λ b. is_empty d.interim_left && (b && ((head.reply.at == head.reply.to) && (not (is_passing head.reply.decision) || is_whole (passed_of d))))) (never head.reply.has_begun) ∙ never (is_empty d.interim_left)))
 
     begun_none : (d : Client) → is_begun d ≡ false → is_said d ≡ false
     begun_none d off = by d.stage off
@@ -226,9 +226,9 @@ begun_speaks {At} {Then} t c fine replies h = record {
         by (Answering r) at = ap (λ t0. is_empty d.interim_left && (t0 && is_empty r.head_left && ((r.at == r.to) && (not (is_passing r.decision) || is_whole (passed_of d))))) at ∙ never (is_empty d.interim_left)
 
     unsaid : c.is_closing ≡ false → is_said (begun_at_end t c) ≡ false
-    unsaid open = by (is_begun c) (is_begun (begun_at_end t c)) refl refl
+    unsaid runs = by (is_begun c) (is_begun (begun_at_end t c)) refl refl
       where
         by : (was now : Bool) → is_begun c ≡ was → is_begun (begun_at_end t c) ≡ now → is_said (begun_at_end t c) ≡ false
-        by true now on at = ap is_said (begun_still t c on) ∙ h.unsaid refl open
-        by false true off at = headed (begun_at_end t c) (begun_head t c (replies open) off at)
+        by true now on at = ap is_said (begun_still t c on) ∙ h.unsaid refl runs
+        by false true off at = headed (begun_at_end t c) (begun_head t c (replies runs) off at)
         by false false off at = begun_none (begun_at_end t c) at

@@ -26,7 +26,7 @@ moved_on : {looks : Bool} (n : ℕ) (s : State) → Spoken looks s → Spoken lo
 unfolding on_client
 moved_on {looks} n s h =
     spoken_on (on_client n next_request s) _ (swept-keeps _ (forsake-keeps (is_of n) _ (keeps_same _)))
-    (changed_spoken looks s (is_client n) next_request (λ c. refl) (λ c i hit was. record { unsaid = λ is. (next_speaks c).unsaid refl; passed = (next_speaks c).passed; begun = (next_speaks c).begun }) (λ is. is) h)
+    (changed_spoken looks s (is_client n) next_request (λ c. refl) (λ c i hit was. let k = next_speaks {At = AtEvent s.phase s.owed} c in record { unsaid = λ is. k.unsaid refl; passed = k.passed; begun = k.begun }) (λ is. is) h)
 
 when_spoken : {looks : Bool} (t : Bool) {x y : State} → Spoken looks x → Spoken looks y → Spoken looks (elim t as (λ c. State) [ true ↦ x | false ↦ y ])
 when_spoken true hx hy = hx
@@ -79,26 +79,26 @@ abbrev Clean : ℕ → State → Type 0
 Clean n s = (c : Client) → IsIn c s.clients → c.number ≡ n → c.is_closing ≡ false → is_said c ≡ false
 
 clean_on : (n : ℕ) (o s : State) → Keeps true o s → Clean n o → Clean n s
-clean_on n o s q clean d i is open = let w = (keeps_of q).clients_from d i in unsaid_on d w.was w.is open (clean w.was w.there (sym w.is.number ∙ is))
+clean_on n o s q clean d i is runs = let w = (keeps_of q).clients_from d i in unsaid_on d w.was w.is runs (clean w.was w.there (sym w.is.number ∙ is))
 
 clean_next : (n m : ℕ) (s : State) → Clean n s → Clean n (on_client m next_request s)
 unfolding on_client
-clean_next n m s clean d i is open = by (in_change (is_client m) next_request d s.clients i)
+clean_next n m s clean d i is runs = by (in_change (is_client m) next_request d s.clients i)
   where
     by : Changed (is_client m) next_request s.clients d → is_said d ≡ false
-    by (same j isnt) = clean d j is open
-    by (other c j hit eq) = ap is_said eq ∙ (next_speaks {At = ⊥} c).unsaid refl (sym (ap (λ (x : Client). x.is_closing) eq) ∙ open)
+    by (same j isnt) = clean d j is runs
+    by (other c j hit eq) = ap is_said eq ∙ (next_speaks {At = ⊥} c).unsaid refl (sym (ap (λ (x : Client). x.is_closing) eq) ∙ runs)
 
-clean_when : {n : ℕ} (t : Bool) {x y : State} → Clean n x → Clean n y → Clean n (elim t as (λ c. State) [ true ↦ x | false ↦ y ])
-clean_when true hx hy = hx
-clean_when false hx hy = hy
+clean_when : (n : ℕ) (t : Bool) (x y : State) → Clean n x → Clean n y → Clean n (elim t as (λ c. State) [ true ↦ x | false ↦ y ])
+clean_when n true x y hx hy = hx
+clean_when n false x y hx hy = hy
 
 ended_clean : (n m : ℕ) (closes : Bool) (s : State) → Clean n s → Clean n (elim closes as (λ x. State) [ true ↦ close_client m false s | false ↦ swept (forsake (is_of m) (on_client m next_request s)) ])
-ended_clean n m closes s clean = clean_when closes (clean_on n s _ (close_client-keeps m false s (keeps_same s)) clean) (clean_on n (on_client m next_request s) _ (swept-keeps _ (forsake-keeps (is_of m) _ (keeps_same _))) (clean_next n m s clean))
+ended_clean n m closes s clean = clean_when n closes _ _ (clean_on n s _ (close_client-keeps m false s (keeps_same s)) clean) (clean_on n (on_client m next_request s) _ (swept-keeps _ (forsake-keeps (is_of m) _ (keeps_same _))) (clean_next n m s clean))
 
 end_said-clean : (n : ℕ) (c : Client) (s : State) → Clean n s → Clean n (end_said c s)
 unfolding end_said end_reply
-end_said-clean n c s clean = clean_when (is_said c && not c.is_closing) (ended_clean n c.number c.closes s clean) clean
+end_said-clean n c s clean = clean_when n (is_said c && not c.is_closing) _ _ (ended_clean n c.number c.closes s clean) clean
 
 step_clean : (n m : ℕ) (s : State) → Clean n s → Clean n (elim (client s m) as (λ x. State) [ None ↦ s | Some c ↦ end_said c s ])
 step_clean n m s clean = by (client s m)
@@ -115,29 +115,29 @@ each_clean n (m ∷ ns) s clean = each_clean n ns _ (step_clean n m s clean)
 -- it is closing, or at its next request
 closed_clean : (x : Client) (s : State) → Clean x.number (close_client x.number false s)
 unfolding on_client
-closed_clean x s c i is open = by (in_change (is_client x.number) (λ y. record y { is_closing = true; is_cut = y.is_cut || false }) w.was s.clients w.there)
+closed_clean x s c i is runs = by (in_change (is_client x.number) (λ y. record y { is_closing = true; is_cut = y.is_cut || false }) w.was s.clients w.there)
   where
     w : FromClient true (on_client x.number (λ y. record y { is_closing = true; is_cut = y.is_cut || false }) s).clients c
     w = (keeps_of (closed-keeps x.number false s)).clients_from c i
 
     by : Changed (is_client x.number) (λ y. record y { is_closing = true; is_cut = y.is_cut || false }) s.clients w.was → is_said c ≡ false
     by (same j isnt) = let both : true ≡ false = sym (ap (λ m. m == x.number) (sym w.is.number ∙ is) ∙ number_same x.number) ∙ isnt in absurd (cc both)
-    by (other d j hit eq) = let both : true ≡ false = sym (w.is.closing (ap (λ (y : Client). y.is_closing) eq)) ∙ open in absurd (cc both)
+    by (other d j hit eq) = let both : true ≡ false = sym (w.is.closing (ap (λ (y : Client). y.is_closing) eq)) ∙ runs in absurd (cc both)
 
 moved_clean : (x : Client) (s : State) → Clean x.number (on_client x.number next_request s)
 unfolding on_client
-moved_clean x s c i is open = by (in_change (is_client x.number) next_request c s.clients i)
+moved_clean x s c i is runs = by (in_change (is_client x.number) next_request c s.clients i)
   where
     by : Changed (is_client x.number) next_request s.clients c → is_said c ≡ false
     by (same j isnt) = let both : true ≡ false = sym (ap (λ m. m == x.number) is ∙ number_same x.number) ∙ isnt in absurd (cc both)
-    by (other d j hit eq) = ap is_said eq ∙ (next_speaks {At = ⊥} d).unsaid refl (sym (ap (λ (y : Client). y.is_closing) eq) ∙ open)
+    by (other d j hit eq) = ap is_said eq ∙ (next_speaks {At = ⊥} d).unsaid refl (sym (ap (λ (y : Client). y.is_closing) eq) ∙ runs)
 
 both_clean : (x : Client) (s : State) (closes : Bool) → Clean x.number (elim closes as (λ y. State) [ true ↦ close_client x.number false s | false ↦ swept (forsake (is_of x.number) (on_client x.number next_request s)) ])
-both_clean x s closes = clean_when closes (closed_clean x s) (clean_on x.number (on_client x.number next_request s) _ (swept-keeps _ (forsake-keeps (is_of x.number) _ (keeps_same _))) (moved_clean x s))
+both_clean x s closes = clean_when x.number closes _ _ (closed_clean x s) (clean_on x.number (on_client x.number next_request s) _ (swept-keeps _ (forsake-keeps (is_of x.number) _ (keeps_same _))) (moved_clean x s))
 
 not_both : (a b : Bool) → (a && not b) ≡ false → b ≡ false → a ≡ false
-not_both true b off open = let both : true ≡ false = ap not (sym open) ∙ off in absurd (cc both)
-not_both false b off open = refl
+not_both true b off runs = let both : true ≡ false = ap not (sym runs) ∙ off in absurd (cc both)
+not_both false b off runs = refl
 
 looked_at : (n : ℕ) (s : State) → AreRising (map client_number s.clients) → Clean n (elim (client s n) as (λ x. State) [ None ↦ s | Some c ↦ end_said c s ])
 unfolding end_said end_reply
@@ -148,11 +148,11 @@ looked_at n s rise = by (client s n) refl
 
     at : (x : Client) → client s n ≡ Some x → (t : Bool) → (is_said x && not x.is_closing) ≡ t
         → Clean n (elim t as (λ y. State) [ true ↦ elim x.closes as (λ z. State) [ true ↦ close_client x.number false s | false ↦ swept (forsake (is_of x.number) (on_client x.number next_request s)) ] | false ↦ s ])
-    at x some false off c i is open = let both : Some x ≡ Some c = sym some ∙ found c i is in let eq : x ≡ c = cc both in sym (ap is_said eq) ∙ not_both (is_said x) x.is_closing off (ap (λ (y : Client). y.is_closing) eq ∙ open)
+    at x some false off = λ c i is runs. let both : Some x ≡ Some c = sym some ∙ found c i is in let eq : x ≡ c = cc both in sym (ap is_said eq) ∙ not_both (is_said x) x.is_closing off (ap (λ (y : Client). y.is_closing) eq ∙ runs)
     at x some true on = subst (λ m. Clean m (elim x.closes as (λ z. State) [ true ↦ close_client x.number false s | false ↦ swept (forsake (is_of x.number) (on_client x.number next_request s)) ])) (same_number x.number n (in_find (is_client n) x s.clients some).1) (both_clean x s x.closes)
 
     by : (o : Option Client) → client s n ≡ o → Clean n (elim o as (λ x. State) [ None ↦ s | Some c ↦ elim (is_said c && not c.is_closing) as (λ y. State) [ true ↦ elim c.closes as (λ z. State) [ true ↦ close_client c.number false s | false ↦ swept (forsake (is_of c.number) (on_client c.number next_request s)) ] | false ↦ s ] ])
-    by None none = λ c i is open. let both : None ≡ Some c = sym none ∙ found c i is in absurd (cc both)
+    by None none = λ c i is runs. let both : None ≡ Some c = sym none ∙ found c i is in absurd (cc both)
     by (Some x) some = at x some (is_said x && not x.is_closing) refl
 
 all_clean : (ns : List ℕ) (s : State) → AreRising (map client_number s.clients) → (m : ℕ) → IsIn m ns → Clean m (each_client end_said ns s)
@@ -191,7 +191,7 @@ end_replies-spoken s h = spoken_on said _ (each_client-keeps close_finished (λ 
     g = facts_of (each_spoken names s h)
 
     clean : (c : Client) → IsIn c said.clients → c.is_closing ≡ false → is_said c ≡ false
-    clean c i open = all_clean names s (facts_of h).rise c.number (subst (λ (ns : List ℕ). IsIn c.number ns) (named_of (each_named {names = names} names s (named refl))) (in_map_of client_number c said.clients i)) c i refl open
+    clean c i runs = all_clean names s (facts_of h).rise c.number (subst (λ (ns : List ℕ). IsIn c.number ns) (named_of (each_named {names = names} names s (named refl))) (in_map_of client_number c said.clients i)) c i refl runs
 
     looked : (c : Client) → IsIn c said.clients → Speaks false (AtEvent said.phase said.owed) c → Speaks true (AtEvent said.phase said.owed) c
-    looked c i k = record { unsaid = λ is open. clean c i open; passed = k.passed; begun = k.begun }
+    looked c i k = record { unsaid = λ is runs. clean c i runs; passed = k.passed; begun = k.begun }

@@ -20,11 +20,11 @@ use Rattle.pp_law.specs.Replies.{begin_replies, begun_at_end, end_replies, is_ou
 use Rattle.pp_law.specs.Requests.{Front, NoHeadYet, NoHead, IsRequest}
 use Rattle.pp_law.specs.Responses.{close_this, ended, finish_first, got, is_whole_at_end}
 use Rattle.pp_law.specs.State.{State, Answer, Client, Conn, Exchange, Free, Handling, Evicting, Keeping, Connecting, Instance, IsWoken, Owed, Awaiting, RowRefused}
-use Rattle.pp_law.specs.Table.{forget}
+use Rattle.pp_law.specs.Table.{forget, swept}
 use Rattle.pp_law.specs.Turn.{rested_client, rest_with, touch}
 use Rattle.pp_laws.specs.Numbers.{AreRising}
 use Rattle.pp_laws.specs.Runs.{IsIn}
-use Rattle.pp_laws.proofs.Lists.{in_map, in_push, rise_map}
+use Rattle.pp_laws.proofs.Lists.{From, in_map, in_push, rise_map}
 use Rattle.pp_laws.proofs.Sound.{client_number}
 use Rattle.pp_laws_turn.proofs.Same.{begun_at_end-same, said_by-same}
 use Rattle.pp_laws_left.specs.Left.{IsLeftOn}
@@ -122,6 +122,10 @@ ask-keeps k n s h = each_of (asking s k) h (λ e. ask_next-keeps e n s h)
 
 -- ---- events
 
+touch_phase : (n : ℕ) (s : State) → (touch n s).phase ≡ s.phase
+unfolding touch on_conn on_client
+touch_phase n s = refl
+
 -- it is read or written now, where an event was awaited
 pub owing-spoken : (owed : Owed) (n : ℕ) (s : State) → s.phase ≡ Awaiting → Spoken true s → Spoken true (owing owed n s)
 unfolding owing
@@ -131,11 +135,7 @@ owing-spoken owed n s at h = spoken (record { rise = (facts_of t).rise; all = λ
     t = spoken_on s _ (touch-keeps n s (keeps_same s)) h
 
     anyhow : (c : Client) → Speaks true (AtEvent (touch n s).phase (touch n s).owed) c → Speaks true (AtEvent (touch n s).phase owed) c
-    anyhow c k = record { unsaid = k.unsaid; passed = k.passed; begun = λ w. k.begun (awaits (touch_phase ∙ at)) }
-      where
-        touch_phase : (touch n s).phase ≡ s.phase
-        unfolding touch on_conn on_client
-        touch_phase = refl
+    anyhow c k = record { unsaid = k.unsaid; passed = k.passed; begun = λ w. k.begun (awaits (touch_phase n s ∙ at)) }
 
 pub opened-spoken : (n : ℕ) (s : State) → AreRising (map client_number (opened n s).clients) → Spoken true s → Spoken true (opened n s)
 unfolding opened
@@ -243,16 +243,30 @@ woken-spoken image s = nobody_spoken _ (opening_nobody _ refl)
 
 -- ---- the end of a turn
 
--- replies begin, and an event is awaited from there on
-pub waits-spoken : (w : Wants) (t : State) → AllFine t → IsLeftOn t → Spoken true t → Spoken true (rest_with w (begin_replies t))
-unfolding rest_with begin_replies swept forsake
-waits-spoken w t fine left h = spoken (record {
-  rise = rise_map client_number (rested_client _) (λ c. refl) _ (rise_map client_number (begun_at_end t) (λ c. (begun_at_end-same t c).number) t.clients (facts_of h).rise);
-  all = λ d i. let r = in_map (rested_client _) d _ i in let q = in_map (begun_at_end t) r.was t.clients r.there in by d r.was q.was r.is q.is q.there;
-})
+-- replies begin
+begun_all : (t : State) → AllFine t → IsLeftOn t → Spoken true t → AreRising (map client_number (begin_replies t).clients) × ((d : Client) → IsIn d (begin_replies t).clients → Speaks true (AtEvent Awaiting Free) d)
+unfolding begin_replies swept forsake
+begun_all t fine left h = (rise_map client_number (begun_at_end t) (λ c. (begun_at_end-same t c).number) t.clients (facts_of h).rise, λ d i. by d (in_map (begun_at_end t) d t.clients i))
   where
-    by : {At : Type 0} (d b c : Client) → d ≡ rested_client _ b → b ≡ begun_at_end t c → IsIn c t.clients → Speaks true At d
-    by d b c rests begins i = subst (λ (x : Client). Speaks true _ x) (sym rests) (rested (subst (λ (x : Client). Speaks true _ x) (sym begins) (begun_speaks t c (all_of fine c i) (λ open r at. left.replies c r i at (λ on. ((facts_of h).all c i).passed open r (at, on))) ((facts_of h).all c i))))
-      where
-        rested : {At : Type 0} → Speaks true At b → Speaks true At (rested_client _ b)
-        rested k = record { unsaid = k.unsaid; passed = k.passed; begun = k.begun }
+    one : (c : Client) → IsIn c t.clients → Speaks true (AtEvent Awaiting Free) (begun_at_end t c)
+    one c i = begun_speaks t c (all_of fine c i) (λ runs r at. left.replies c r i at (λ on. ((facts_of h).all c i).passed runs r (at, on))) ((facts_of h).all c i)
+
+    by : (d : Client) → From (begun_at_end t) t.clients d → Speaks true (AtEvent Awaiting Free) d
+    by d r = subst (λ (x : Client). Speaks true (AtEvent Awaiting Free) x) (sym r.is) (one r.was r.there)
+
+-- and an event is awaited from there on
+pub waits-spoken : (w : Wants) (t : State) → AllFine t → IsLeftOn t → Spoken true t → Spoken true (rest_with w (begin_replies t))
+unfolding rest_with
+waits-spoken w t fine left h = spoken (record { rise = rise_map client_number (rested_client u) (λ c. refl) u.clients all.0; all = λ d i. by d (in_map (rested_client u) d u.clients i) })
+  where
+    u : State
+    u = begin_replies t
+
+    all : AreRising (map client_number (begin_replies t).clients) × ((d : Client) → IsIn d (begin_replies t).clients → Speaks true (AtEvent Awaiting Free) d)
+    all = begun_all t fine left h
+
+    rested : (c : Client) → Speaks true (AtEvent Awaiting Free) c → Speaks true (AtEvent Awaiting Free) (rested_client (begin_replies t) c)
+    rested c k = record { unsaid = k.unsaid; passed = k.passed; begun = k.begun }
+
+    by : (d : Client) → From (rested_client (begin_replies t)) (begin_replies t).clients d → Speaks true (AtEvent Awaiting Free) d
+    by d r = subst (λ (x : Client). Speaks true (AtEvent Awaiting Free) x) (sym r.is) (rested r.was (all.1 r.was r.there))

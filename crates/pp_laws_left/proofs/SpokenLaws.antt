@@ -28,7 +28,7 @@ use Rattle.pp_laws_room.proofs.Coming.{by_coming}
 use Rattle.pp_laws_served.specs.Served.{IsReply, MayEnd}
 use Rattle.pp_laws_turn.specs.SoundTurn.{IsSoundTurn}
 use Rattle.pp_laws_turn.proofs.Happenings.{gate}
-use Rattle.pp_laws_turn.proofs.Laws.{turns_are_sound}
+use Rattle.pp_laws_turn.proofs.Laws.{sound_turns}
 use Rattle.pp_laws_turn.proofs.Lifts.{obeying}
 use Rattle.pp_law.proofs.Prefixes.{front_from}
 use Rattle.pp_obeys.specs.Obeys.{Obeys}
@@ -74,7 +74,7 @@ unfolding come_to_decide
 free_to_decide terms s log obeys on = by (is_free (come_to_decide s).owed) refl
   where
     t : IsSoundTurn (come_to_decide s)
-    t = turns_are_sound terms (come_to_decide s) log (obeys_coming decides phases s obeys)
+    t = sound_turns terms (come_to_decide s) log (obeys_coming decides phases s obeys)
 
     handles : (p : Phase) → (come_to_decide s).phase ≡ p → p ≡ Handling → decides (come_to_decide s) ≡ false
     handles p at is = ap (λ (q : Phase). elim (is_same_phase Deciding q) as (λ x. Bool) [ true ↦ not (is_done (come_to_decide s)) | false ↦ is_same_phase DecidingAgain q ]) (at ∙ is)
@@ -82,6 +82,10 @@ free_to_decide terms s log obeys on = by (is_free (come_to_decide s).owed) refl
     by : (b : Bool) → is_free (come_to_decide s).owed ≡ b → b ≡ true
     by true is = refl
     by false off = let both : true ≡ false = sym on ∙ handles (come_to_decide s).phase refl (t.owes off) in absurd (cc both)
+
+obeys_to : (p : Phase) (terms : List Term) (s : State) (log : Log) → Obeys terms s log → Obeys terms (come_to p s) log
+unfolding come_to
+obeys_to p terms s log obeys = obeys_coming (is_at p) phases s obeys
 
 -- ---- happening by happening
 
@@ -104,11 +108,7 @@ changed_by : {b : Since} (terms : List Term) (log : Log) (s : State) (h : Happen
 unfolding changed ending opened
 changed_by terms log s (Woke image) obeys hs is h = woken-spoken image s
 changed_by terms log s (Waits w) obeys hs is h =
-    waits-spoken w (come_to DecidingAgain s) (fine_on terms (come_to DecidingAgain s) log (obeys_to DecidingAgain obeys)) (ends_are_left terms s log obeys) (spoken_on s _ (come_to-keeps DecidingAgain s (keeps_same s)) h)
-  where
-    obeys_to : (p : Phase) → Obeys terms s log → Obeys terms (come_to p s) log
-    unfolding come_to
-    obeys_to p o = obeys_coming (is_at p) phases s o
+    waits-spoken w (come_to DecidingAgain s) (fine_on terms (come_to DecidingAgain s) log (obeys_to DecidingAgain terms s log obeys)) (ends_are_left terms s log obeys) (spoken_on s _ (come_to-keeps DecidingAgain s (keeps_same s)) h)
 changed_by terms log s (Clock seconds) obeys hs is h = spoken_on s _ (event-keeps _ (tick-keeps seconds s (keeps_same s))) h
 changed_by terms log s (Opened n) obeys hs is h = spoken_on (opened n s) _ (event-keeps _ (keeps_same (opened n s))) (opened-spoken n s rise h)
   where
@@ -161,8 +161,8 @@ turns_are_spoken terms s log obeys =
     let f = facts_of (spoken_on_log terms s log obeys) in
     let l = turns_are_left terms s log obeys in
     record {
-      unsaid = λ c i open. (f.all c i).unsaid refl open;
-      replies = λ c r i open at. l.replies c r i at (λ on. (f.all c i).passed open r (at, on));
+      unsaid = λ c i runs. (f.all c i).unsaid refl runs;
+      replies = λ c r i runs at. l.replies c r i at (λ on. (f.all c i).passed runs r (at, on));
     }
 
 pub ends_are_spoken : EndsAreSpoken

@@ -1,5 +1,5 @@
 // What a turn leaves of replies, and of places where no head is.
-ghost use Rattle.pp_laws_left.specs.Left.{EndsAreLeft, TurnsAreLeft};
+ghost use Rattle.pp_laws_left.specs.Left.{EndsAreLeft, EndsAreSpoken, TurnsAreLeft, TurnsAreSpoken};
 
 /// No reply goes on behind its end, one that is passed has no bytes of a row, and any other has its row; and a place where no head is
 /// has a page, once something was decided for it.
@@ -10,4 +10,11 @@ pub fn turns_are_left()
 /// So it is in the state in which a turn ends, before replies begin.
 pub fn ends_are_left()
     ensures left { EndsAreLeft }
+{}
+
+/// As long as a client goes on, no reply that was said whole does, and one that is passed has its response; and so it is of everybody
+/// where a turn may end.
+pub fn turns_are_spoken()
+    ensures spoken { TurnsAreSpoken }
+    ensures ends { EndsAreSpoken }
 {}
