@@ -40,7 +40,7 @@ leaves-comes n f s number settled h =
 
 pub refuse-comes : {late : Bool} → (c : Client) (status : ℕ) (s : State) → Holds (Coming late) s → Holds (Coming late) (refuse c status s)
 unfolding refuse
-refuse-comes c status s h = swept-keeps rows _ (leaves-comes c.number (refused_with status) s (λ d. refl) (λ d i is. unsourced s.instances s.next_instance (refused_with status d) refl) h)
+refuse-comes c status s h = swept-keeps rows _ (leaves-comes c.number (refused_with status) s (λ d. refl) (λ d i is. unsourced s.instances s.next_instance (refused_with status d) refl (λ off. refl)) h)
 
 -- it is for that client, of whose other exchanges none is left
 pub begin_exchange-comes : {late : Bool} → (e : Exchange) (n : ℕ) (s : State) → e.number ≡ s.next_exchange → e.place ≡ None → e.asked ≡ 0 → is_headed e ≡ false → e.asker ≡ Some n → ((c : Client) → IsIn c s.clients → c.number ≡ n → IsTold s.instances e c) → Holds (Coming late) s
@@ -83,7 +83,7 @@ pass_sourced true = refl
 pass_sourced false = refl
 
 asking_settled : (xs : List Instance) (next_row : ℕ) (d : Decision) (c : Client) → Settled xs next_row (asking_with d c)
-asking_settled xs next_row d c = unsourced xs next_row (asking_with d c) (pass_sourced (is_pass d))
+asking_settled xs next_row d c = unsourced xs next_row (asking_with d c) (pass_sourced (is_pass d)) (λ off. refl)
 
 asking_told : (xs : List Instance) (e : Exchange) (d : Decision) (c : Client) → filled_of e ≡ None → key_in c.front ≡ Some e.key → IsTold xs e (asking_with d c)
 asking_told xs e d c none key = record {

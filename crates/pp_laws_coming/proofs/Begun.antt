@@ -125,10 +125,9 @@ front_same d c kept key is = by c.front refl
 
 begun_goes : (s : State) (c : Client) → Goes (begun_at_end s c) c
 begun_goes s c = record {
-  stays = record { number = (begun_keeps s c).number; source = (begun_at_end-same s c).source; front = front_same _ c (begun_at_end-same s c); untold = λ none. ap passed_in (begun_keeps s c).brought ∙ none };
+  stays = record { stands = λ is. (begun_keeps s c).stands is; number = (begun_keeps s c).number; source = (begun_at_end-same s c).source; front = front_same _ c (begun_at_end-same s c); untold = λ none. ap passed_in (begun_keeps s c).brought ∙ none };
   waits = λ w. subst (λ (x : Client). Waits x) (sym (still_begun s c w)) w;
   coming = λ is. ap whole_in (begun_keeps s c).brought ∙ is;
-  stands = λ is. (begun_keeps s c).stands is;
   answers = λ off. (begun_keeps s c).answers off;
 }
 

@@ -32,10 +32,11 @@ pub record IsTold (xs : List Instance) (e : Exchange) (c : Client) : Type 0 wher
   pub key : key_in c.front ≡ Some e.key
   pub bound : filled_of e ≡ None → (x : Instance) → IsIn x xs → Follows x c → IsBoundTo x.id e
 
--- of a client: who is answered from an instance that stands is passed nothing
+-- of a client: who is answered from an instance that stands is passed nothing, nor is who may have no exchange
 pub record Settled (xs : List Instance) (next_row : ℕ) (c : Client) : Type 0 where
   pub given : (id : ℕ) → source_in c.stage ≡ Some id → id < next_row
   pub bare : (x : Instance) → IsIn x xs → Follows x c → passed_of c ≡ None
+  pub unasked : may_have_ask c.stage ≡ false → passed_of c ≡ None
 
 -- numbers are distinct
 abbrev pub AreApart : List Exchange → Type 0
@@ -106,6 +107,7 @@ rows {late} xs next v from h = record {
   settled = λ c i. record {
     given = λ id is. (let lt : id < v.next_instance = (h.settled c i).given id is in let le : v.next_instance ≤ next = from.grows in omega arith);
     bare = λ x j follows. (let w = was_followed v xs next from x c j (h.settled c i).given follows in (h.settled c i).bare w.was w.there w.follows);
+    unasked = (h.settled c i).unasked;
   };
   told = λ e n c i j asks is off. let told = h.told e n c i j asks is off in record {
     waits = told.waits;

@@ -110,7 +110,7 @@ follow_with-comes c r x s source row_there nothing h =
     its_row id is = let both : Some x.id ≡ Some id = sym source ∙ is in cc both
 
     settled : (d : Client) → IsIn d s.clients → d.number ≡ c.number → Settled s.instances s.next_instance (answering_with r d)
-    settled d i is = record { given = λ id at. subst (λ n. n < s.next_instance) (its_row id at) ((facts_of h).rowed x row_there); bare = λ y j follows. nothing d i is }
+    settled d i is = record { given = λ id at. subst (λ n. n < s.next_instance) (its_row id at) ((facts_of h).rowed x row_there); bare = λ y j follows. nothing d i is; unasked = λ off. nothing d i is }
 
     told : (e : Exchange) (d : Client) → Changed test left_alone s.exchanges e → e.asker ≡ Some c.number → d.number ≡ c.number → Changed (is_client c.number) (answering_with r) s.clients d → IsTold s.instances e d
     told e d at asks is (same j isnt) = let both : true ≡ false = sym (number_same c.number) ∙ ap (λ (n : ℕ). n == c.number) (sym is) ∙ isnt in absurd (cc both)
@@ -145,10 +145,9 @@ unfolding relay
 relay-comes c s brought h =
     swept-keeps rows _
     (on_client-comes c.number (answering_with (reply_by Relay None)) s (λ d. refl) (λ d i hit. record {
-      stays = record { number = refl; source = λ id is. absurd (cc is); front = λ key is. is; untold = λ none. none };
+      stays = record { number = refl; source = λ id is. absurd (cc is); front = λ key is. is; untold = λ none. none; stands = λ is. refl };
       waits = λ w. absurd (brought d i (same_number d.number c.number hit) w.brought);
       coming = λ is. is;
-      stands = λ is. refl;
       answers = λ off. refl;
     }) h)
 

@@ -23,7 +23,7 @@ fewer_rows test cs es next xs next_row h = record {
   headed = h.headed;
   placeless = h.placeless;
   rowed = λ x i. h.rowed x (in_filter test x xs i).0;
-  settled = λ c i. record { given = (h.settled c i).given; bare = λ x j follows. (h.settled c i).bare x (in_filter test x xs j).0 follows };
+  settled = λ c i. record { given = (h.settled c i).given; bare = λ x j follows. (h.settled c i).bare x (in_filter test x xs j).0 follows; unasked = (h.settled c i).unasked };
   told = λ e n c i j asks is off. let told = h.told e n c i j asks is off in record {
     waits = told.waits;
     untold = told.untold;

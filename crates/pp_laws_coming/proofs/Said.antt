@@ -60,10 +60,9 @@ passed_goes f ends c = by c.brought refl
     by (Joins id plain) is = goes_on c
     by TooWide is = goes_on c
     by (Passes p) is = record {
-      stays = record { number = refl; source = λ id at. at; front = λ key at. at; untold = λ none. (let both : None ≡ Some p = sym none ∙ ap passed_in is in absurd (cc both)) };
+      stays = record { stands = λ on. on; number = refl; source = λ id at. at; front = λ key at. at; untold = λ none. (let both : None ≡ Some p = sym none ∙ ap passed_in is in absurd (cc both)) };
       waits = λ w. absurd (cc (sym is ∙ w.brought));
       coming = λ more. ends p ∙ sym (ap whole_in is) ∙ more;
-      stands = λ on. on;
       answers = λ off. off;
     }
 
@@ -85,7 +84,7 @@ said_so n c = by (is_empty c.interim_left) c.stage refl
         → Said (elim b as (λ x. Client) [ true ↦ on_passed (shorter m) (record c { stage = Answering r }) | false ↦ record c { stage = Answering (record r { at = r.at + m }) } ]) c
     body_goes m r true out stood =
         let g : Goes (on_passed (shorter m) (record c { stage = Answering r })) (record c { stage = Answering r }) = passed_goes (shorter m) (λ p. refl) (record c { stage = Answering r }) in
-        record { untold = g.stays.untold; waits = λ w. absurd (out w.stage); coming = g.coming; stands = λ on. g.stands (stood on); answers = λ off. g.answers refl }
+        record { untold = g.stays.untold; waits = λ w. absurd (out w.stage); coming = g.coming; stands = λ on. g.stays.stands (stood on); answers = λ off. g.answers refl }
     body_goes m r false out stood = record { untold = λ none. none; waits = λ w. absurd (out w.stage); coming = λ is. is; stands = stood; answers = λ off. refl }
 
     reply_goes : (r : Reply) (b : Bool) → (is_waiting c.stage ≡ true → ⊥) → (may_have_ask c.stage ≡ true → may_have_ask (Answering r) ≡ true)
@@ -108,7 +107,7 @@ said_goes : (n : ℕ) (c : Client) → Goes (said_by n c) c
 said_goes n c =
     let kept : SameClient (said_by n c) c = said_by-same n c in
     let said : Said (said_by n c) c = said_so n c in
-    record { stays = record { number = kept.number; source = kept.source; front = front_same _ c kept; untold = said.untold }; waits = said.waits; coming = said.coming; stands = said.stands; answers = said.answers }
+    record { stays = record { number = kept.number; source = kept.source; front = front_same _ c kept; untold = said.untold; stands = said.stands }; waits = said.waits; coming = said.coming; answers = said.answers }
 
 pub say-comes : {late : Bool} → (c n : ℕ) (s : State) → Holds (Coming late) s → Holds (Coming late) (on_client c (said_by n) s)
 say-comes c n s h = on_client-comes c (said_by n) s (λ x. (said_goes n x).stays.number) (λ x i hit. said_goes n x) h

@@ -144,7 +144,7 @@ module _ (e : Exchange) (body : Body) (come : is_pending body ≡ false) (cs : L
 
       settled_by : (c : Client) → Changed (is_asked_by e) (λ x. record x { brought = b }) cs c → Settled xs next_row c
       settled_by c (same j isnt) = h.settled c j
-      settled_by c (other x j hit eq) = subst (λ (y : Client). Settled xs next_row y) (sym eq) (record { given = (h.settled x j).given; bare = λ y k follows. bare x.number x y (its_asker x hit) j refl k (record { stands = follows.stands; source = follows.source }) })
+      settled_by c (other x j hit eq) = subst (λ (y : Client). Settled xs next_row y) (sym eq) (record { given = (h.settled x j).given; unasked = λ off. (let told = h.told e x.number x there j (its_asker x hit) refl (λ none. cc none) in let both : true ≡ false = sym told.stands ∙ off in absurd (cc both)); bare = λ y k follows. bare x.number x y (its_asker x hit) j refl k (record { stands = follows.stands; source = follows.source }) })
 
       by : (d : Exchange) (n : ℕ) (c : Client) → IsIn d (with_bodies e body es) → d.asker ≡ Some n → c.number ≡ n → (None ≡ Some n → ⊥) → Changed (is_asked_by e) (λ x. record x { brought = b }) cs c → IsTold xs d c
       by d n c i asks is off (same j isnt) = headed_come.told d n c i j asks is off

@@ -86,6 +86,8 @@ pub record IsToldOn (s : State) : Type 0 where
   pub told : (e : Exchange) (n : ℕ) (c : Client) → IsIn e s.exchanges → e.asker ≡ Some n → client s n ≡ Some c → IsTold s e c
   -- whoever is answered by a row that stands is passed nothing
   pub bare : (c : Client) (x : Instance) → IsIn c s.clients → IsIn x s.instances → IsBy x c → passed_of c ≡ None
+  -- and so is whoever may have no exchange
+  pub unasked : (c : Client) → IsIn c s.clients → may_have_ask c.stage ≡ false → passed_of c ≡ None
   -- a head comes to an exchange that has a place
   pub headed : (e : Exchange) → IsIn e s.exchanges → is_headed e ≡ true → e.place ≡ None → ⊥
   -- one that is nobody's and has no place is one of a follower
