@@ -4,7 +4,7 @@ use Rattle.pp_pass.specs.Pipe.{Pipe}
 use Rattle.pp_law.specs.Lists.{change, is_some_with}
 use Rattle.pp_law.specs.Phases.{is_free}
 use Rattle.pp_law.specs.Stages.{is_begun, passed_of}
-use Rattle.pp_law.specs.State.{State, Phase, Awaiting, Owed, Brought, Awaited, Useless, Joins, Passes, TooWide, Client, Passed, Reply, Stage, Undecided, Waiting, Passing, Answering}
+use Rattle.pp_law.specs.State.{State, Phase, Before, IsWoken, IsConfigured, IsRooted, IsListed, IsListening, Awaiting, Owed, Brought, Awaited, Useless, Joins, Passes, TooWide, Client, Passed, Reply, Stage, Undecided, Waiting, Passing, Answering}
 use Rattle.pp_laws.specs.Runs.{IsIn}
 use Rattle.pp_laws.proofs.Lists.{From, changed_at, in_map, map_kept}
 use Rattle.pp_laws.proofs.Sound.{client_number}
@@ -65,10 +65,21 @@ pub data AtEvent (phase : Phase) (owed : Owed) : Type 0 where
   awaits : phase ≡ Awaiting → AtEvent phase owed
   owes : is_free owed ≡ false → AtEvent phase owed
 
+-- an opening is not over
+abbrev pub is_early : Phase → Bool
+is_early Before = true
+is_early IsWoken = true
+is_early IsConfigured = true
+is_early IsRooted = true
+is_early IsListed = true
+is_early IsListening = true
+is_early phase = false
+
 pub record Facts (exact : Bool) (o : State) (clients : List Client) (phase : Phase) (owed : Owed) : Type 0 where
   pub numbers : map client_number clients ≡ map client_number o.clients
   pub clients_from : (d : Client) → IsIn d clients → FromClient exact o.clients d
   pub event : AtEvent phase owed → AtEvent o.phase o.owed
+  pub early : is_early phase ≡ true → is_early o.phase ≡ true
 
 abbrev pub FactsOf : Bool → State → State → Type 0
 FactsOf exact o s = Facts exact o s.clients s.phase s.owed
@@ -81,11 +92,11 @@ pub facts_of : {exact : Bool} {o s : State} → Keeps exact o s → FactsOf exac
 facts_of (keeps facts) = facts
 
 pub keeps_same : {exact : Bool} (s : State) → Keeps exact s s
-keeps_same s = keeps (record { numbers = refl; clients_from = λ d i. record { was = d; there = i; is = kept_same d }; event = λ at. at })
+keeps_same s = keeps (record { numbers = refl; clients_from = λ d i. record { was = d; there = i; is = kept_same d }; event = λ at. at; early = λ is. is })
 
 -- in another phase
-pub rephased : {exact : Bool} {o : State} {clients : List Client} {phase : Phase} {owed : Owed} (p : Phase) → (p ≡ Awaiting → ⊥) → Facts exact o clients phase owed → Facts exact o clients p owed
-rephased {exact} {o} {clients} {phase} {owed} p isnt h = record { numbers = h.numbers; clients_from = h.clients_from; event = by }
+pub rephased : {exact : Bool} {o : State} {clients : List Client} {phase : Phase} {owed : Owed} (p : Phase) → (p ≡ Awaiting → ⊥) → is_early p ≡ false → Facts exact o clients phase owed → Facts exact o clients p owed
+rephased {exact} {o} {clients} {phase} {owed} p isnt late h = record { numbers = h.numbers; clients_from = h.clients_from; event = by; early = λ is. let both : false ≡ true = sym late ∙ is in absurd (cc both) }
   where
     by : AtEvent p owed → AtEvent o.phase o.owed
     by (awaits is) = absurd (isnt is)
@@ -97,7 +108,7 @@ from_on : {exact : Bool} (o : List Client) (d c : Client) → Kept exact d c →
 from_on o d c one two = record { was = two.was; there = two.there; is = kept_on d c two.was one two.is }
 
 pub clients_mapped : {exact : Bool} (o s : State) (f : Client → Client) → ((c : Client) → Kept exact (f c) c) → FactsOf exact o s → FactsOf exact o (record s { clients = map f s.clients })
-clients_mapped {exact} o s f kept h = record { numbers = map_kept client_number f (λ c. (kept c).number) s.clients ∙ h.numbers; clients_from = λ d i. by d (in_map f d s.clients i); event = h.event }
+clients_mapped {exact} o s f kept h = record { numbers = map_kept client_number f (λ c. (kept c).number) s.clients ∙ h.numbers; clients_from = λ d i. by d (in_map f d s.clients i); event = h.event; early = h.early }
   where
     by : (d : Client) → From f s.clients d → FromClient exact o.clients d
     by d r = from_on o.clients d r.was (subst (λ (x : Client). Kept exact x r.was) (sym r.is) (kept r.was)) (h.clients_from r.was r.there)

@@ -31,7 +31,7 @@ use Rattle.pp_laws_left.proofs.KeepRows.{clear-keeps, enter-keeps, make_row-keep
 
 -- ---- what is told
 
-not_so : (t : Bool) → not t ≡ true → t ≡ false
+pub not_so : (t : Bool) → not t ≡ true → t ≡ false
 not_so true is = absurd (cc is)
 not_so false is = refl
 

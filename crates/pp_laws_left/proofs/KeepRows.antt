@@ -1,20 +1,18 @@
 -- What is done to rows and chunks, to the store and in the opening leaves replies as they are.
 use Rattle.std.proofs.Common.{◌≡◌, ℕ, nat_lt, Bool, true, false, List, find, Option, Some, None}
-use Rattle.pp_conf.specs.Conf.{Settings}
-use Rattle.pp_conf.specs.Words.{reading_of}
 use Rattle.pp_fresh.specs.declared.aging.Times.{Times}
 use Rattle.pp_text.specs.Fields.{Field}
 use Rattle.pp_valid.specs.declared.version.Version.{Version}
 use Rattle.pp_world.specs.declared.op.DiskOp.{DiskOp}
 use Rattle.pp_law.specs.Chunks.{is_chunk, use_chunk, drop_chunk, note_use}
 use Rattle.pp_law.specs.Lists.{Bytes}
-use Rattle.pp_law.specs.Opening.{settings_in, with_settings, is_opening, stuck, opened_to, configured, lose_in_opening}
+use Rattle.pp_law.specs.Opening.{is_opening, lose_in_opening}
 use Rattle.pp_law.specs.Repairs.{agenda_in_opening, begin_in_opening}
-use Rattle.pp_law.specs.State.{State, Agenda, Entry, Instance, Phase, Awaiting, IsConfigured, IsStuck}
+use Rattle.pp_law.specs.State.{State, Agenda, Entry, Instance}
 use Rattle.pp_law.specs.Store.{remove_entry, note_gone, agenda_in_turn, begin_op, begin_in_turn, enter_next, close_name, is_of_draft, lose_draft, fail_op, end_op, lose_entry, note_kept, load_from, load}
 use Rattle.pp_law.specs.Table.{is_entry_of, row, kept_row, row_on_disk, rows, idle_row, on_instance, forget, swept, clear, mark_row, forget_row, with_room, add_row, make_row, enter}
 use Rattle.pp_laws_left.proofs.KeepCases.{by_list, by_todo, each_of, when}
-use Rattle.pp_laws_left.proofs.Keep.{Keeps, facts_of, keeps, rephased}
+use Rattle.pp_laws_left.proofs.Keep.{Keeps, facts_of, keeps}
 
 -- ---- instances
 
@@ -134,25 +132,6 @@ unfolding load
 load-keeps key i s h = each_of (row s key) h (λ x. each_of (kept_row s key) h (λ e. load_from-keeps x e i s h))
 
 -- ---- the opening
-
-with_settings-keeps : {exact : Bool} {o : State} (settings : Option Settings) (s : State) → Keeps exact o s → Keeps exact o (with_settings settings s)
-unfolding with_settings
-with_settings-keeps None s h = keeps (rephased IsStuck (λ e. cc e) (facts_of h))
-with_settings-keeps (Some settings) s h = keeps (rephased IsConfigured (λ e. cc e) (facts_of h))
-
-stuck-keeps : {exact : Bool} {o : State} (s : State) → Keeps exact o s → Keeps exact o (stuck s)
-unfolding stuck
-stuck-keeps s h = keeps (rephased IsStuck (λ e. cc e) (facts_of h))
-
-pub opened_to-keeps : {exact : Bool} {o : State} (phase : Phase) (ok : Bool) (s : State) → (phase ≡ Awaiting → ⊥) → Keeps exact o s → Keeps exact o (opened_to phase ok s)
-unfolding opened_to
-opened_to-keeps phase true s isnt h = keeps (rephased phase isnt (facts_of h))
-opened_to-keeps phase false s isnt h = stuck-keeps s h
-
-pub configured-keeps : {exact : Bool} {o : State} (text : Option Bytes) (s : State) → Keeps exact o s → Keeps exact o (configured text s)
-unfolding configured
-configured-keeps None s h = stuck-keeps s h
-configured-keeps (Some text) s h = with_settings-keeps (settings_in (reading_of s.term.words (Some text))) s h
 
 pub lose_in_opening-keeps : {exact : Bool} {o : State} (name : Bytes) (s : State) → Keeps exact o s → Keeps exact o (lose_in_opening name s)
 unfolding lose_in_opening

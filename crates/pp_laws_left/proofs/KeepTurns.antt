@@ -17,7 +17,7 @@ use Rattle.pp_law.specs.Unseen.{is_unseen, drop_on, drop_unseen}
 use Rattle.pp_target.specs.Key.{text_of}
 use Rattle.pp_world.specs.declared.note.Decision.{Decision}
 use Rattle.pp_laws_left.proofs.KeepCases.{each_of, when}
-use Rattle.pp_laws_left.proofs.Keep.{Kept, Keeps, as_it_was, clients_mapped, facts_of, keeps, kept_same, rephased}
+use Rattle.pp_laws_left.proofs.Keep.{Kept, Keeps, as_it_was, clients_mapped, facts_of, keeps, is_early, kept_same, rephased}
 use Rattle.pp_laws_left.proofs.KeepAsks.{close_client-keeps, close_conn-keeps, each_conn-keeps, end_exchange-keeps, fail-keeps, fill-keeps, give_up_asks-keeps, on_client-keeps, on_conn-keeps, placing-keeps}
 use Rattle.pp_laws_left.proofs.KeepRows.{enter-keeps, mark_row-keeps, use_chunk-keeps}
 
@@ -31,8 +31,8 @@ drop_unseen-keeps s h = each_conn-keeps drop_on drop_on-keeps _ s h
 
 -- ---- phases
 
-pub in_phase-keeps : {exact : Bool} {o : State} (phase : Phase) (s : State) → (phase ≡ Awaiting → ⊥) → Keeps exact o s → Keeps exact o (in_phase phase s)
-in_phase-keeps phase s isnt h = keeps (rephased phase isnt (facts_of h))
+pub in_phase-keeps : {exact : Bool} {o : State} (phase : Phase) (s : State) → (phase ≡ Awaiting → ⊥) → is_early phase ≡ false → Keeps exact o s → Keeps exact o (in_phase phase s)
+in_phase-keeps phase s isnt late h = keeps (rephased phase isnt late (facts_of h))
 
 behind-keeps : {exact : Bool} {o : State} (phase : Phase) (s : State) → Keeps exact o s → Keeps exact o (behind phase s)
 behind-keeps Before s h = h
@@ -43,12 +43,12 @@ behind-keeps IsListed s h = h
 behind-keeps IsListening s h = h
 behind-keeps IsStuck s h = h
 behind-keeps Awaiting s h = h
-behind-keeps Handling s h = in_phase-keeps Evicting s (λ e. cc e) h
-behind-keeps Evicting s h = give_up_asks-keeps _ (in_phase-keeps Keeping s (λ e. cc e) h)
-behind-keeps Keeping s h = in_phase-keeps Deciding s (λ e. cc e) h
-behind-keeps Deciding s h = in_phase-keeps Following s (λ e. cc e) h
-behind-keeps Following s h = fill-keeps _ (give_up_asks-keeps _ (drop_unseen-keeps _ (in_phase-keeps Connecting s (λ e. cc e) h)))
-behind-keeps Connecting s h = placing-keeps _ (in_phase-keeps DecidingAgain s (λ e. cc e) h)
+behind-keeps Handling s h = in_phase-keeps Evicting s (λ e. cc e) refl h
+behind-keeps Evicting s h = give_up_asks-keeps _ (in_phase-keeps Keeping s (λ e. cc e) refl h)
+behind-keeps Keeping s h = in_phase-keeps Deciding s (λ e. cc e) refl h
+behind-keeps Deciding s h = in_phase-keeps Following s (λ e. cc e) refl h
+behind-keeps Following s h = fill-keeps _ (give_up_asks-keeps _ (drop_unseen-keeps _ (in_phase-keeps Connecting s (λ e. cc e) refl h)))
+behind-keeps Connecting s h = placing-keeps _ (in_phase-keeps DecidingAgain s (λ e. cc e) refl h)
 behind-keeps DecidingAgain s h = h
 
 pub next-keeps : {exact : Bool} {o : State} (s : State) → Keeps exact o s → Keeps exact o (next s)
@@ -70,7 +70,7 @@ come_to_decide-keeps s h = come-keeps decides phases s h
 
 pub deciding-keeps : {exact : Bool} {o : State} (s : State) → Keeps exact o s → Keeps exact o (deciding s)
 unfolding deciding
-deciding-keeps s h = in_phase-keeps Deciding _ (λ e. cc e) (come_to_decide-keeps s h)
+deciding-keeps s h = in_phase-keeps Deciding _ (λ e. cc e) refl (come_to_decide-keeps s h)
 
 -- ---- marks, and the clock
 

@@ -15,4 +15,7 @@ pub mod SpokenBegins
 pub mod SpokenEnds
 pub mod SpokenChoices
 pub mod SpokenHappenings
+pub mod Fresh
 pub mod SpokenLaws
+pub mod Passes
+pub mod AllLeft

@@ -1,5 +1,5 @@
 -- What is kept of replies: one that was said whole is over, and one that is passed has its response.
-use Rattle.std.proofs.Common.{◌≡◌, refl, ℕ, ◌+◌, ◌-◌, Bool, true, false, not, ◌==◌, ◌&&◌, ◌||◌, nat_le, List, [], drop, length, map, filter, is_some, Option, Some, None, sym, subst, ap, ◌∙◌}
+use Rattle.std.proofs.Common.{◌≡◌, refl, ℕ, ◌+◌, ◌-◌, Bool, true, false, not, ◌==◌, ◌&&◌, ◌||◌, nat_le, List, [], ◌∷◌, drop, length, map, filter, is_some, Option, Some, None, sym, subst, ap, ◌∙◌}
 use Rattle.pp_pass.specs.Pipe.{Pipe, without_first}
 use Rattle.pp_text.specs.Bytes.{is_empty}
 use Rattle.pp_law.specs.Lists.{Bytes, change, is_some_with}
@@ -11,7 +11,7 @@ use Rattle.pp_laws.specs.Runs.{IsIn}
 use Rattle.pp_laws.proofs.Lists.{Changed, in_change, in_filter, other, rise_change, rise_filter, same}
 use Rattle.pp_laws.proofs.Sound.{client_number}
 use Rattle.pp_laws_left.proofs.Fine.{one_reply}
-use Rattle.pp_laws_left.proofs.Keep.{AtEvent, Keeps, Kept, begun_in, facts_of as keeps_of, pipe_of}
+use Rattle.pp_laws_left.proofs.Keep.{AtEvent, Keeps, Kept, begun_in, facts_of as keeps_of, is_early, pipe_of}
 
 -- ---- a client
 
@@ -19,12 +19,17 @@ use Rattle.pp_laws_left.proofs.Keep.{AtEvent, Keeps, Kept, begun_in, facts_of as
 abbrev pub Passes : Client → Reply → Type 0
 Passes c r = (c.stage ≡ Answering r) × (is_passing r.decision ≡ true)
 
+-- it is in the midst of a reply that is not passed
+abbrev pub Reads : Client → Reply → Type 0
+Reads c r = (c.stage ≡ Answering r) × ((r.has_begun ≡ true) × (is_passing r.decision ≡ false))
+
 -- as long as it goes on: a reply that was said whole is over, which is looked at as replies are over; one that is passed has its
--- response; and where an event is awaited or handled it has begun
+-- response; and where an event is awaited or handled it has begun. To who is in the midst of another nothing is passed
 pub record Speaks (looks : Bool) (At : Type 0) (c : Client) : Type 0 where
   pub unsaid : looks ≡ true → c.is_closing ≡ false → is_said c ≡ false
   pub passed : c.is_closing ≡ false → (r : Reply) → Passes c r → is_some (passed_of c) ≡ true
   pub begun : At → c.is_closing ≡ false → (r : Reply) → Passes c r → r.has_begun ≡ true
+  pub bare : (r : Reply) → Reads c r → passed_of c ≡ None
 
 -- ---- tests
 
@@ -76,11 +81,21 @@ unsaid_on d c k runs off =
     ∙ ap (λ w. said_in c.interim_left c.stage w) (same_whole (passed_of d) (passed_of c) (k.pipe refl))
     ∙ off (going d c k runs)
 
+none_of : (o : Option Passed) → is_some o ≡ false → o ≡ None
+none_of None off = refl
+none_of (Some p) off = absurd (cc off)
+
+pub bare_on : {exact : Bool} (d c : Client) → Kept exact d c → ((r : Reply) → Reads c r → passed_of c ≡ None) → (r : Reply) → Reads d r → passed_of d ≡ None
+bare_on d c k bare r is =
+    let at : c.stage ≡ Answering r = sym k.stage ∙ is.0 in
+    none_of (passed_of d) (k.passed (ap begun_in at ∙ is.1.0) ∙ ap (λ (o : Option Passed). is_some o) (bare r (at, is.1)))
+
 pub speaks_on : {looks : Bool} {At Was : Type 0} (d c : Client) → (At → Was) → Kept true d c → Speaks looks Was c → Speaks looks At d
 speaks_on d c was k h = record {
   unsaid = λ is runs. unsaid_on d c k runs (h.unsaid is);
   passed = λ runs r is. same_some (passed_of d) (passed_of c) (k.pipe refl) ∙ h.passed (going d c k runs) r (sym k.stage ∙ is.0, is.1);
   begun = λ at runs r is. h.begun (was at) (going d c k runs) r (sym k.stage ∙ is.0, is.1);
+  bare = bare_on d c k h.bare;
 }
 
 -- where something comes, each reply that is passed has begun
@@ -91,6 +106,7 @@ speaks_got d c was k h = record {
       let at : Passes c r = (sym k.stage ∙ is.0, is.1) in
       k.passed (ap begun_in at.0 ∙ h.begun was (going d c k runs) r at) ∙ h.passed (going d c k runs) r at;
   begun = λ at runs r is. h.begun was (going d c k runs) r (sym k.stage ∙ is.0, is.1);
+  bare = bare_on d c k h.bare;
 }
 
 -- ---- a reply goes on
@@ -104,6 +120,9 @@ restaged d c q r stood now decision begun runs some h = record {
   begun = λ at goes p is.
       let one : q ≡ p = one_reply (sym now ∙ is.0) in
       ap (λ (x : Reply). x.has_begun) (sym one) ∙ begun ∙ h.begun at (runs goes) r (stood, ap is_passing (sym decision ∙ ap (λ (x : Reply). x.decision) one) ∙ is.1);
+  bare = λ p is.
+      let one : q ≡ p = one_reply (sym now ∙ is.0) in
+      none_of (passed_of d) (some ∙ ap (λ (o : Option Passed). is_some o) (h.bare r (stood, (sym begun ∙ ap (λ (x : Reply). x.has_begun) one ∙ is.1.0, ap is_passing (sym decision ∙ ap (λ (x : Reply). x.decision) one) ∙ is.1.1))));
 }
 
 piped_some : (f : Passed → Passed) (c : Client) → is_some (passed_of (on_passed f c)) ≡ is_some (passed_of c)
@@ -122,7 +141,7 @@ piped_stage f c = by (passed_of c)
     by (Some p) = (refl, refl)
 
 unlooked : {looks : Bool} {At : Type 0} (c : Client) → Speaks looks At c → Speaks false At c
-unlooked c h = record { unsaid = λ is. absurd (cc is); passed = h.passed; begun = h.begun }
+unlooked c h = record { unsaid = λ is. absurd (cc is); passed = h.passed; begun = h.begun; bare = h.bare }
 
 body_speaks : {looks : Bool} {At : Type 0} (n : ℕ) (q r : Reply) (c : Client) → c.stage ≡ Answering r → q.decision ≡ r.decision → q.has_begun ≡ r.has_begun → Speaks looks At c → Speaks false At (said_of_body n q c)
 body_speaks {looks} {At} n q r c stood decision begun h = by (is_passing q.decision)
@@ -162,13 +181,15 @@ said_speaks {looks} {At} n c h = by (is_empty c.interim_left)
 
     by : (t : Bool) → Speaks false At (elim t as (λ x. Client) [ false ↦ record c { interim_left = drop n c.interim_left } | true ↦ elim (reply_of c) as (λ y. Client) [ None ↦ c | Some r ↦ said_of n r c ] ])
     by true = by_reply c.stage refl
-    by false = record { unsaid = λ is. absurd (cc is); passed = h.passed; begun = h.begun }
+    by false = record { unsaid = λ is. absurd (cc is); passed = h.passed; begun = h.begun; bare = h.bare }
 
 -- ---- a state
 
 pub record Facts (looks : Bool) (clients : List Client) (phase : Phase) (owed : Owed) : Type 0 where
   pub rise : AreRising (map client_number clients)
   pub all : (c : Client) → IsIn c clients → Speaks looks (AtEvent phase owed) c
+  -- and before an opening is over nobody is there
+  pub nobody : is_early phase ≡ true → clients ≡ []
 
 abbrev pub FactsOf : Bool → State → Type 0
 FactsOf looks s = Facts looks s.clients s.phase s.owed
@@ -179,10 +200,15 @@ pub data Spoken (looks : Bool) (s : State) : Type 0 where
 pub facts_of : {looks : Bool} {s : State} → Spoken looks s → FactsOf looks s
 facts_of (spoken facts) = facts
 
+pub none_in : {A : Type 0} (num : A → ℕ) (xs ys : List A) → map num xs ≡ map num ys → ys ≡ [] → xs ≡ []
+none_in num [] ys alike none = refl
+none_in num (x ∷ xs) ys alike none = let both : num x ∷ map num xs ≡ [] = alike ∙ ap (map num) none in absurd (cc both)
+
 pub spoken_on : {looks : Bool} (o s : State) → Keeps true o s → Spoken looks o → Spoken looks s
 spoken_on o s q h = spoken (record {
   rise = subst AreRising (sym (keeps_of q).numbers) (facts_of h).rise;
   all = λ d i. let w = (keeps_of q).clients_from d i in speaks_on d w.was (keeps_of q).event w.is ((facts_of h).all w.was w.there);
+  nobody = λ early. none_in client_number s.clients o.clients (keeps_of q).numbers ((facts_of h).nobody ((keeps_of q).early early));
 })
 
 -- where something comes, an event is handled
@@ -190,6 +216,7 @@ pub spoken_got : {looks : Bool} (o s : State) → AtEvent o.phase o.owed → Kee
 spoken_got o s at q h = spoken (record {
   rise = subst AreRising (sym (keeps_of q).numbers) (facts_of h).rise;
   all = λ d i. let w = (keeps_of q).clients_from d i in speaks_got d w.was at w.is ((facts_of h).all w.was w.there);
+  nobody = λ early. none_in client_number s.clients o.clients (keeps_of q).numbers ((facts_of h).nobody ((keeps_of q).early early));
 })
 
 -- those that this is made of, and all others
@@ -199,14 +226,15 @@ pub changed_spoken : {looks : Bool} (after_looks : Bool) (s : State) (p : Client
 changed_spoken {looks} after_looks s p f number kept less h = spoken (record {
   rise = rise_change client_number p f number s.clients (facts_of h).rise;
   all = λ d i. by d (in_change p f d s.clients i);
+  nobody = λ early. ap (λ cs. change p f cs) ((facts_of h).nobody early);
 })
   where
     fewer : (c : Client) → Speaks looks (AtEvent s.phase s.owed) c → Speaks after_looks (AtEvent s.phase s.owed) c
-    fewer c k = record { unsaid = λ is. k.unsaid (less is); passed = k.passed; begun = k.begun }
+    fewer c k = record { unsaid = λ is. k.unsaid (less is); passed = k.passed; begun = k.begun; bare = k.bare }
 
     by : (d : Client) → Changed p f s.clients d → Speaks after_looks (AtEvent s.phase s.owed) d
     by d (same i isnt) = fewer d ((facts_of h).all d i)
     by d (other c i hit eq) = subst (λ (x : Client). Speaks after_looks (AtEvent s.phase s.owed) x) (sym eq) (kept c i hit ((facts_of h).all c i))
 
 pub filtered_spoken : {looks : Bool} (s : State) (p : Client → Bool) → Spoken looks s → Spoken looks (record s { clients = filter p s.clients })
-filtered_spoken s p h = spoken (record { rise = rise_filter client_number p s.clients (facts_of h).rise; all = λ c i. (facts_of h).all c (in_filter p c s.clients i).0 })
+filtered_spoken s p h = spoken (record { rise = rise_filter client_number p s.clients (facts_of h).rise; all = λ c i. (facts_of h).all c (in_filter p c s.clients i).0; nobody = λ early. ap (λ cs. filter p cs) ((facts_of h).nobody early) })

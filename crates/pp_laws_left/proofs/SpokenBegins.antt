@@ -17,8 +17,8 @@ use Rattle.pp_laws_served.proofs.HasHeads.{HasHead, begun_head, begun_still}
 use Rattle.pp_laws_left.proofs.Begins.{heard_stage}
 use Rattle.pp_laws_left.proofs.Choices.{waits_for}
 use Rattle.pp_laws_left.proofs.Fine.{Fine, Places, begun, has_begun, one_reply, undecided}
-use Rattle.pp_laws_left.proofs.Keep.{passed_in}
-use Rattle.pp_laws_left.proofs.Spoken.{Passes, Speaks, is_whole, never, no_test, said_in}
+use Rattle.pp_laws_left.proofs.Keep.{begun_in, passed_in}
+use Rattle.pp_laws_left.proofs.Spoken.{Passes, Reads, Speaks, is_whole, never, no_test, said_in}
 
 -- ---- what is decided
 
@@ -27,15 +27,13 @@ none_said : (interim : Bytes) (stage : Stage) (whole : Bool) → (elim stage as 
 none_said interim stage whole none =
     ap (λ o. is_empty interim && is_some_with (λ (r : Reply). r.has_begun && is_empty r.head_left && ((r.at == r.to) && (not (is_passing r.decision) || whole))) o) none ∙ never (is_empty interim)
 
-off_first : (a b : Bool) (rest : Bool) → b ≡ false → (a && (b && rest)) ≡ false
-off_first a b rest off = ap (λ t. a && (t && rest)) off ∙ never a
-
 -- in whatever phase: where nothing was decided that is passed
 pub refused_speaks : {At : Type 0} (status : ℕ) (c : Client) → Speaks true At (refused_with status c)
 refused_speaks status c = record {
   unsaid = λ is runs. never (is_empty (first_interim c));
   passed = λ runs r is. let off : false ≡ true = ap (λ (x : Reply). is_passing x.decision) (one_reply is.0) ∙ is.1 in absurd (cc off);
   begun = λ at runs r is. let off : false ≡ true = ap (λ (x : Reply). is_passing x.decision) (one_reply is.0) ∙ is.1 in absurd (cc off);
+  bare = λ r is. refl;
 }
 
 asks_none : (pass : Bool) → (elim (elim pass as (λ t. Stage) [ true ↦ Passing | false ↦ Waiting ]) as (λ y. Option Reply) [ Undecided ↦ None | Waiting ↦ None | Passing ↦ None | Answering r ↦ Some r ]) ≡ None
@@ -47,6 +45,7 @@ asking_speaks d c = record {
   unsaid = λ is runs. none_said (first_interim c) (stage_for d) (is_whole None) (asks_none (is_pass d));
   passed = λ runs r is. absurd (waits_for d r is.0);
   begun = λ at runs r is. absurd (waits_for d r is.0);
+  bare = λ r is. refl;
 }
 
 pub answering_speaks : {At : Type 0} (r : Reply) (c : Client) → (At → ⊥) → r.has_begun ≡ false → (is_passing r.decision ≡ true → is_some (passed_of c) ≡ true) → Speaks true At (answering_with r c)
@@ -54,6 +53,7 @@ answering_speaks r c off fresh passed = record {
   unsaid = λ is runs. ap (λ t. is_empty (first_interim c) && (t && is_empty r.head_left && ((r.at == r.to) && (not (is_passing r.decision) || is_whole (passed_of c))))) fresh ∙ never (is_empty (first_interim c));
   passed = λ runs q is. passed (ap (λ (x : Reply). is_passing x.decision) (one_reply is.0) ∙ is.1);
   begun = λ at runs q is. absurd (off at);
+  bare = λ q is. let both : false ≡ true = sym fresh ∙ ap (λ (x : Reply). x.has_begun) (one_reply is.0) ∙ is.1.0 in absurd (cc both);
 }
 
 -- ---- the next request
@@ -79,6 +79,7 @@ none_speaks c at = record {
   unsaid = λ is runs. none_said c.interim_left c.stage (is_whole (passed_of c)) (ap (λ (x : Stage). elim x as (λ y. Option Reply) [ Undecided ↦ None | Waiting ↦ None | Passing ↦ None | Answering r ↦ Some r ]) at);
   passed = λ runs r is. let both : Undecided ≡ Answering r = sym at ∙ is.0 in absurd (cc both);
   begun = λ w runs r is. let both : Undecided ≡ Answering r = sym at ∙ is.0 in absurd (cc both);
+  bare = λ r is. let both : Undecided ≡ Answering r = sym at ∙ is.0 in absurd (cc both);
 }
 
 pub next_undecided : (c : Client) → (next_request c).stage ≡ Undecided
@@ -199,16 +200,66 @@ module _ {At : Type 0} (t : State) (c : Client) (h : Speaks true At c) (fine : F
       by false closing (NoFront status) at = placed (ap parsed_in at)
       by false closing (IsRequest q) at = staged q c.stage refl
 
+-- who reads on from a row now, and did not, was decided to
+record IsRowed (c : Client) : Type 0 where
+  goes : c.is_closing ≡ false
+  reply : Reply
+  is : c.stage ≡ Answering reply
+  fresh : reply.has_begun ≡ false
+  row : is_passing reply.decision ≡ false
+
+abbrev AreRowed : Client → Client → Type 0
+AreRowed c d = (r : Reply) → Reads d r → IsRowed c
+
+reads_row : (t : State) (c : Client) → is_begun c ≡ false → (r : Reply) → Reads (begun_at_end t c) r → IsRowed c
+reads_row t c off = by c.is_closing refl c.front
+  where
+    none : AreRowed c c
+    none r is = let both : false ≡ true = sym off ∙ ap begun_in is.0 ∙ is.1.0 in absurd (cc both)
+
+    passed : (q : Parsed) (d : Decision) → is_passing d ≡ true → (o : Option Passed) → AreRowed c (elim o as (λ y. Client) [ None ↦ c | Some p ↦ record c { stage = Answering (passed_reply t q p d); closes = not (keeps_open q && is_end_known p.rule q.head.minor) } ])
+    passed q d on None = none
+    passed q d on (Some p) = λ r is. let both : true ≡ false = sym on ∙ ap (λ (x : Reply). is_passing x.decision) (one_reply is.0) ∙ is.1.1 in absurd (cc both)
+
+    kind : (q : Parsed) (p : Reply) → c.is_closing ≡ false → c.stage ≡ Answering p → p.has_begun ≡ false → (b : Bool) → is_passing p.decision ≡ b → AreRowed c (elim b as (λ y. Client) [ true ↦ begun_passed t q p.decision c | false ↦ begun_instance t q p c ])
+    kind q p goes at fresh true on = passed q p.decision on (passed_of c)
+    kind q p goes at fresh false row = λ r is. record { goes = goes; reply = p; is = at; fresh = fresh; row = row }
+
+    answer : (q : Parsed) (p : Reply) → c.is_closing ≡ false → c.stage ≡ Answering p → (b : Bool) → p.has_begun ≡ b → AreRowed c (elim b as (λ y. Client) [ true ↦ c | false ↦ begun_decided t q p c ])
+    answer q p goes at true on = none
+    answer q p goes at false fresh = kind q p goes at fresh (is_passing p.decision) refl
+
+    staged : (q : Parsed) (g : Stage) → c.is_closing ≡ false → c.stage ≡ g → AreRowed c (elim g as (λ y. Client) [ Undecided ↦ c | Waiting ↦ c | Passing ↦ begun_passed t q Pass c | Answering r ↦ elim r.has_begun as (λ y. Client) [ true ↦ c | false ↦ begun_decided t q r c ] ])
+    staged q Undecided goes at = none
+    staged q Waiting goes at = none
+    staged q Passing goes at = passed q Pass refl (passed_of c)
+    staged q (Answering p) goes at = answer q p goes at p.has_begun refl
+
+    by : (closing : Bool) → c.is_closing ≡ closing → (f : Front) → AreRowed c (elim closing as (λ y. Client) [ true ↦ c | false ↦ elim f as (λ y. Client) [ NoHeadYet ↦ c | NoFront status ↦ c | IsRequest q ↦ begun_by t q c ] ])
+    by true goes f = none
+    by false goes NoHeadYet = none
+    by false goes (NoFront status) = none
+    by false goes (IsRequest q) = staged q c.stage goes refl
+
+-- before it begins nothing is passed to who reads from a row
+abbrev pub IsFresh : Client → Type 0
+IsFresh c = c.is_closing ≡ false → (r : Reply) → c.stage ≡ Answering r → r.has_begun ≡ false → is_passing r.decision ≡ false → passed_of c ≡ None
+
 -- behind it
-pub begun_speaks : {At Then : Type 0} (t : State) (c : Client) → Fine c → (c.is_closing ≡ false → (r : Reply) → c.stage ≡ Answering r → IsReply c r) → Speaks true At c → Speaks true Then (begun_at_end t c)
-begun_speaks {At} {Then} t c fine replies h = record {
+pub begun_speaks : {At Then : Type 0} (t : State) (c : Client) → Fine c → (c.is_closing ≡ false → (r : Reply) → c.stage ≡ Answering r → IsReply c r) → IsFresh c → Speaks true At c → Speaks true Then (begun_at_end t c)
+begun_speaks {At} {Then} t c fine replies fresh h = record {
   unsaid = λ is runs. unsaid (sym s.closing ∙ runs);
   passed = λ runs r is. ap (λ b. is_some (passed_in b)) s.brought ∙ (begun_whole {At = At} t c h fine (sym s.closing ∙ runs) r is).0;
   begun = λ at runs r is. (begun_whole {At = At} t c h fine (sym s.closing ∙ runs) r is).1;
+  bare = λ r is. bare (is_begun c) refl r is;
 }
   where
     s : Same (begun_at_end t c) c
     s = begun_same t c
+
+    bare : (b : Bool) → is_begun c ≡ b → (r : Reply) → Reads (begun_at_end t c) r → passed_of (begun_at_end t c) ≡ None
+    bare true on r is = ap passed_of (begun_still t c on) ∙ h.bare r (sym (ap (λ (x : Client). x.stage) (begun_still t c on)) ∙ is.0, is.1)
+    bare false off r is = let w = reads_row t c off r is in ap passed_in s.brought ∙ fresh w.goes w.reply w.is w.fresh w.row
 
     headed : (d : Client) → HasHead d → is_said d ≡ false
     headed d head =

@@ -26,7 +26,7 @@ moved_on : {looks : Bool} (n : ℕ) (s : State) → Spoken looks s → Spoken lo
 unfolding on_client
 moved_on {looks} n s h =
     spoken_on (on_client n next_request s) _ (swept-keeps _ (forsake-keeps (is_of n) _ (keeps_same _)))
-    (changed_spoken looks s (is_client n) next_request (λ c. refl) (λ c i hit was. let k = next_speaks {At = AtEvent s.phase s.owed} c in record { unsaid = λ is. k.unsaid refl; passed = k.passed; begun = k.begun }) (λ is. is) h)
+    (changed_spoken looks s (is_client n) next_request (λ c. refl) (λ c i hit was. let k = next_speaks {At = AtEvent s.phase s.owed} c in record { unsaid = λ is. k.unsaid refl; passed = k.passed; begun = k.begun; bare = k.bare }) (λ is. is) h)
 
 when_spoken : {looks : Bool} (t : Bool) {x y : State} → Spoken looks x → Spoken looks y → Spoken looks (elim t as (λ c. State) [ true ↦ x | false ↦ y ])
 when_spoken true hx hy = hx
@@ -179,7 +179,7 @@ each_named (n ∷ ns) s h = each_named ns _ (named_step n s h)
 
 pub end_replies-spoken : (s : State) → Spoken false s → Spoken true (end_replies s)
 unfolding end_replies
-end_replies-spoken s h = spoken_on said _ (each_client-keeps close_finished (λ c u k. close_finished-keeps c u k) names said (keeps_same said)) (spoken (record { rise = g.rise; all = λ c i. looked c i (g.all c i) }))
+end_replies-spoken s h = spoken_on said _ (each_client-keeps close_finished (λ c u k. close_finished-keeps c u k) names said (keeps_same said)) (spoken (record { rise = g.rise; all = λ c i. looked c i (g.all c i); nobody = g.nobody }))
   where
     names : List ℕ
     names = map (λ (c : Client). c.number) s.clients
@@ -194,4 +194,4 @@ end_replies-spoken s h = spoken_on said _ (each_client-keeps close_finished (λ 
     clean c i runs = all_clean names s (facts_of h).rise c.number (subst (λ (ns : List ℕ). IsIn c.number ns) (named_of (each_named {names = names} names s (named refl))) (in_map_of client_number c said.clients i)) c i refl runs
 
     looked : (c : Client) → IsIn c said.clients → Speaks false (AtEvent said.phase said.owed) c → Speaks true (AtEvent said.phase said.owed) c
-    looked c i k = record { unsaid = λ is runs. clean c i runs; passed = k.passed; begun = k.begun }
+    looked c i k = record { unsaid = λ is runs. clean c i runs; passed = k.passed; begun = k.begun; bare = k.bare }

@@ -29,21 +29,21 @@ use Rattle.pp_laws.proofs.Sound.{client_number}
 use Rattle.pp_laws_turn.proofs.Same.{begun_at_end-same, said_by-same}
 use Rattle.pp_laws_left.specs.Left.{IsLeftOn}
 use Rattle.pp_laws_left.proofs.Fine.{AllFine, all_of}
-use Rattle.pp_laws_left.proofs.Keep.{AtEvent, Keeps, Kept, as_it_was, awaits, clients_changed, facts_of as keeps_of, keeps, keeps_same, owes, rephased}
+use Rattle.pp_laws_left.proofs.Keep.{AtEvent, Keeps, Kept, as_it_was, awaits, clients_changed, facts_of as keeps_of, is_early, keeps, keeps_same, owes}
 use Rattle.pp_laws_left.proofs.KeepAsks.{close_client-keeps, close_conn-keeps, end_exchange-keeps, fill-keeps, forsake-keeps, lose_attempt-keeps, on_client-keeps, on_client_of-keeps, on_conn-keeps, on_exchange-keeps, placing-keeps, put_on-keeps}
 use Rattle.pp_laws_left.proofs.KeepCases.{by_pause, each_of, when}
 use Rattle.pp_laws_left.proofs.KeepHeads.{ended-keeps, got-keeps}
 use Rattle.pp_laws_left.proofs.KeepRows.{begin_in_opening-keeps, begin_in_turn-keeps, close_name-keeps, drop_chunk-keeps, end_op-keeps, forget-keeps, lose_in_opening-keeps, swept-keeps}
 use Rattle.pp_laws_left.proofs.KeepTurns.{come_to-keeps, come_to_decide-keeps, in_phase-keeps, regained-keeps, touch-keeps, use_said-keeps}
 use Rattle.pp_laws_left.proofs.Spoken.{Passes, Speaks, Spoken, changed_spoken, facts_of, filtered_spoken, said_speaks, spoken, spoken_got, spoken_on}
-use Rattle.pp_laws_left.proofs.SpokenBegins.{begun_speaks, none_speaks}
+use Rattle.pp_laws_left.proofs.SpokenBegins.{IsFresh, begun_speaks, none_speaks}
 use Rattle.pp_laws_left.proofs.SpokenEnds.{end_replies-spoken}
 
 -- ---- where nothing is said
 
 pub event-keeps : {exact : Bool} {o : State} (s : State) → Keeps exact o s → Keeps exact o (event s)
 unfolding event
-event-keeps s h = regained-keeps _ (in_phase-keeps Handling s (λ e. cc e) h)
+event-keeps s h = regained-keeps _ (in_phase-keeps Handling s (λ e. cc e) refl h)
 
 pub reached-keeps : {exact : Bool} {o : State} (n : ℕ) (s : State) → Keeps exact o s → Keeps exact o (reached n s)
 unfolding reached
@@ -51,7 +51,7 @@ reached-keeps n s h = touch-keeps n _ (on_conn-keeps n (λ k. record k { is_reac
 
 -- nothing is owed any more
 freed : {exact : Bool} {o : State} (s : State) → Keeps exact o s → Keeps exact o (record s { owed = Free })
-freed {exact} {o} s h = keeps (record { numbers = (keeps_of h).numbers; clients_from = (keeps_of h).clients_from; event = by })
+freed {exact} {o} s h = keeps (record { numbers = (keeps_of h).numbers; clients_from = (keeps_of h).clients_from; event = by; early = (keeps_of h).early })
   where
     by : AtEvent s.phase Free → AtEvent o.phase o.owed
     by (awaits is) = (keeps_of h).event (awaits is)
@@ -129,17 +129,17 @@ touch_phase n s = refl
 -- it is read or written now, where an event was awaited
 pub owing-spoken : (owed : Owed) (n : ℕ) (s : State) → s.phase ≡ Awaiting → Spoken true s → Spoken true (owing owed n s)
 unfolding owing
-owing-spoken owed n s at h = spoken (record { rise = (facts_of t).rise; all = λ c i. anyhow c ((facts_of t).all c i) })
+owing-spoken owed n s at h = spoken (record { rise = (facts_of t).rise; all = λ c i. anyhow c ((facts_of t).all c i); nobody = (facts_of t).nobody })
   where
     t : Spoken true (touch n s)
     t = spoken_on s _ (touch-keeps n s (keeps_same s)) h
 
     anyhow : (c : Client) → Speaks true (AtEvent (touch n s).phase (touch n s).owed) c → Speaks true (AtEvent (touch n s).phase owed) c
-    anyhow c k = record { unsaid = k.unsaid; passed = k.passed; begun = λ w. k.begun (awaits (touch_phase n s ∙ at)) }
+    anyhow c k = record { unsaid = k.unsaid; passed = k.passed; begun = λ w. k.begun (awaits (touch_phase n s ∙ at)); bare = k.bare }
 
-pub opened-spoken : (n : ℕ) (s : State) → AreRising (map client_number (opened n s).clients) → Spoken true s → Spoken true (opened n s)
+pub opened-spoken : (n : ℕ) (s : State) → s.phase ≡ Awaiting → AreRising (map client_number (opened n s).clients) → Spoken true s → Spoken true (opened n s)
 unfolding opened
-opened-spoken n s rise h = spoken (record { rise = rise; all = λ c i. by c (in_push c s.clients (new_client n s.clock) i) })
+opened-spoken n s at rise h = spoken (record { rise = rise; all = λ c i. by c (in_push c s.clients (new_client n s.clock) i); nobody = λ early. let both : false ≡ true = ap is_early (sym at) ∙ early in absurd (cc both) })
   where
     by : (c : Client) → IsIn c s.clients ⊎ (c ≡ new_client n s.clock) → Speaks true (AtEvent s.phase s.owed) c
     by c (inl i) = (facts_of h).all c i
@@ -160,7 +160,7 @@ heard_kept bytes c = by c.front
 
 -- what was said whole is looked at again
 less : (s : State) → Spoken true s → Spoken false s
-less s h = spoken (record { rise = (facts_of h).rise; all = λ c i. let k = (facts_of h).all c i in record { unsaid = λ is. absurd (cc is); passed = k.passed; begun = k.begun } })
+less s h = spoken (record { rise = (facts_of h).rise; all = λ c i. let k = (facts_of h).all c i in record { unsaid = λ is. absurd (cc is); passed = k.passed; begun = k.begun; bare = k.bare }; nobody = (facts_of h).nobody })
 
 pub hear-spoken : (n : ℕ) (bytes : Bytes) (s : State) → Spoken true s → Spoken true (hear n bytes s)
 unfolding hear
@@ -219,7 +219,7 @@ unfolding shut
 shut-spoken n s h = filtered_spoken (close_client n false s) (λ c. not (is_client n c)) (spoken_on s _ (close_client-keeps n false s (keeps_same s)) h)
 
 pub nobody_spoken : (s : State) → s.clients ≡ [] → Spoken true s
-nobody_spoken s none = spoken (record { rise = subst (λ cs. AreRising (map client_number cs)) (sym none) tt; all = λ c i. absurd (subst (λ cs. IsIn c cs) none i) })
+nobody_spoken s none = spoken (record { rise = subst (λ cs. AreRising (map client_number cs)) (sym none) tt; all = λ c i. absurd (subst (λ cs. IsIn c cs) none i); nobody = λ early. none })
 
 opening_nobody : (s : State) → s.clients ≡ [] → (begun s).clients ≡ []
 unfolding begun with_settings
@@ -244,29 +244,29 @@ woken-spoken image s = nobody_spoken _ (opening_nobody _ refl)
 -- ---- the end of a turn
 
 -- replies begin
-begun_all : (t : State) → AllFine t → IsLeftOn t → Spoken true t → AreRising (map client_number (begin_replies t).clients) × ((d : Client) → IsIn d (begin_replies t).clients → Speaks true (AtEvent Awaiting Free) d)
+pub begun_all : (t : State) → AllFine t → IsLeftOn t → ((c : Client) → IsIn c t.clients → IsFresh c) → Spoken true t → AreRising (map client_number (begin_replies t).clients) × ((d : Client) → IsIn d (begin_replies t).clients → Speaks true (AtEvent Awaiting Free) d)
 unfolding begin_replies swept forsake
-begun_all t fine left h = (rise_map client_number (begun_at_end t) (λ c. (begun_at_end-same t c).number) t.clients (facts_of h).rise, λ d i. by d (in_map (begun_at_end t) d t.clients i))
+begun_all t fine left fresh h = (rise_map client_number (begun_at_end t) (λ c. (begun_at_end-same t c).number) t.clients (facts_of h).rise, λ d i. by d (in_map (begun_at_end t) d t.clients i))
   where
     one : (c : Client) → IsIn c t.clients → Speaks true (AtEvent Awaiting Free) (begun_at_end t c)
-    one c i = begun_speaks t c (all_of fine c i) (λ runs r at. left.replies c r i at (λ on. ((facts_of h).all c i).passed runs r (at, on))) ((facts_of h).all c i)
+    one c i = begun_speaks t c (all_of fine c i) (λ runs r at. left.replies c r i at (λ on. ((facts_of h).all c i).passed runs r (at, on))) (fresh c i) ((facts_of h).all c i)
 
     by : (d : Client) → From (begun_at_end t) t.clients d → Speaks true (AtEvent Awaiting Free) d
     by d r = subst (λ (x : Client). Speaks true (AtEvent Awaiting Free) x) (sym r.is) (one r.was r.there)
 
 -- and an event is awaited from there on
-pub waits-spoken : (w : Wants) (t : State) → AllFine t → IsLeftOn t → Spoken true t → Spoken true (rest_with w (begin_replies t))
+pub waits-spoken : (w : Wants) (t : State) → AllFine t → IsLeftOn t → ((c : Client) → IsIn c t.clients → IsFresh c) → Spoken true t → Spoken true (rest_with w (begin_replies t))
 unfolding rest_with
-waits-spoken w t fine left h = spoken (record { rise = rise_map client_number (rested_client u) (λ c. refl) u.clients all.0; all = λ d i. by d (in_map (rested_client u) d u.clients i) })
+waits-spoken w t fine left fresh h = spoken (record { rise = rise_map client_number (rested_client u) (λ c. refl) u.clients all.0; all = λ d i. by d (in_map (rested_client u) d u.clients i); nobody = λ early. absurd (cc early) })
   where
     u : State
     u = begin_replies t
 
     all : AreRising (map client_number (begin_replies t).clients) × ((d : Client) → IsIn d (begin_replies t).clients → Speaks true (AtEvent Awaiting Free) d)
-    all = begun_all t fine left h
+    all = begun_all t fine left fresh h
 
     rested : (c : Client) → Speaks true (AtEvent Awaiting Free) c → Speaks true (AtEvent Awaiting Free) (rested_client (begin_replies t) c)
-    rested c k = record { unsaid = k.unsaid; passed = k.passed; begun = k.begun }
+    rested c k = record { unsaid = k.unsaid; passed = k.passed; begun = k.begun; bare = k.bare }
 
     by : (d : Client) → From (rested_client (begin_replies t)) (begin_replies t).clients d → Speaks true (AtEvent Awaiting Free) d
     by d r = subst (λ (x : Client). Speaks true (AtEvent Awaiting Free) x) (sym r.is) (rested r.was (all.1 r.was r.there))

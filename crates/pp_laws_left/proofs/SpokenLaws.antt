@@ -1,7 +1,10 @@
 -- The laws: no reply that was said whole goes on, and one that is passed has its response.
-use Rattle.std.proofs.Common.{◌≡◌, refl, ℕ, Bool, true, false, ◌<◌, ◌≤◌, not, ◌&&◌, ◌||◌, map, List, [], ◌∷◌, ◌++◌, length, is_some, Option, Some, None, inl, inr, sym, subst, ap, ◌∙◌, arith}
+use Rattle.std.proofs.Common.{◌≡◌, refl, ℕ, Bool, true, false, ◌<◌, ◌≤◌, not, ◌==◌, ◌&&◌, ◌||◌, map, List, [], ◌∷◌, ◌++◌, length, is_some, Option, Some, None, inl, inr, sym, subst, ap, ◌∙◌, arith}
 use Rattle.std.proofs.lemmas.List.{append-nil}
+use Rattle.pp_conf.specs.Conf.{Settings}
+use Rattle.pp_conf.specs.Words.{reading_of}
 use Rattle.pp_world.specs.Log.{Log}
+use Rattle.pp_world.specs.declared.event.Wants.{Wants}
 use Rattle.pp_world.specs.declared.happening.Happening.{Happening}
 use Rattle.pp_world.specs.declared.happening.Happening.TheVariants.{Woke, Waits, Clock, Opened, CanRead, CanWrite, Heard, HungUp, Said, Shut, Dialled, Undialled, Reached, Ended, Broke, Asked, Got, Dropped, NoneYet, Began, Did, Unread, Noted, Rooted, Listed, Listens, Configured, Printed, Stopped}
 use Rattle.pp_world.specs.declared.note.Remark.{Remark}
@@ -10,16 +13,19 @@ use Rattle.pp_law.specs.After.{after, changed, event, new_client, gone, noted, o
 use Rattle.pp_law.specs.Asking.{hang_up, hear, is_reading}
 use Rattle.pp_law.specs.Lawful.{Lawful}
 use Rattle.pp_law.specs.Lists.{Bytes}
-use Rattle.pp_law.specs.Opening.{is_at, is_same_phase}
-use Rattle.pp_law.specs.Permits.{IsPermitted, is_owed, is_permitted, may_take, permits, permits_taken}
-use Rattle.pp_law.specs.Phases.{come_to, come_to_decide, decides, ending, is_awaiting, is_done, is_free, phases}
+use Rattle.pp_law.specs.Opening.{configured, is_at, is_recovered, is_same_phase, may_fail, opened_to, permits_configured, permits_listens, permits_rooted, settings_in, stuck, with_settings}
+use Rattle.pp_law.specs.Permits.{IsPermitted, is_owed, is_permitted, may_open, may_take, may_wait, permits, permits_taken, permits_waits}
+use Rattle.pp_law.specs.Phases.{come_to, come_to_decide, decides, ending, is_awaiting, is_done, is_free, may_end, phases}
 use Rattle.pp_law.specs.Replies.{is_said}
+use Rattle.pp_law.specs.Served.{is_served}
 use Rattle.pp_law.specs.Stages.{is_passing, passed_of}
-use Rattle.pp_law.specs.State.{State, Term, Phase, Awaiting, Handling, Evicting, Keeping, Deciding, Connecting, DecidingAgain, IsListed, IsListening, IsRooted, Owed, Free, ReadOf, WriteTo, Client, Reply, Answering, start}
+use Rattle.pp_law.specs.State.{State, Term, Phase, IsWoken, IsConfigured, Awaiting, Handling, Evicting, Keeping, Deciding, Connecting, DecidingAgain, IsListed, IsListening, IsRooted, Owed, Free, ReadOf, WriteTo, Client, Reply, Answering, start}
 use Rattle.pp_laws.specs.Numbers.{AreRising}
 use Rattle.pp_laws.specs.Runs.{IsIn, state_after}
 use Rattle.pp_laws.proofs.Lists.{rise_push}
 use Rattle.pp_laws.proofs.Sound.{Since, Sound, client_number, facts_of as sound_facts}
+use Rattle.pp_laws.proofs.Tests.{first_holds, second_holds}
+use Rattle.pp_laws_bounds.proofs.Stops.{come_to-stopped}
 use Rattle.pp_laws_coming.proofs.Permitted.{cut_decides, ended_owed, got_owed, opened_above}
 use Rattle.pp_laws_ends.proofs.Undecided.{Ends, ends_at}
 use Rattle.pp_laws_pool.proofs.Along.{Next, Steps, along}
@@ -36,12 +42,15 @@ use Rattle.pp_obeys.proofs.Come.{same_phase}
 use Rattle.pp_obeys.proofs.Obeying.{log-good, obeys_at_first}
 use Rattle.pp_laws_left.specs.Left.{EndsAreSpoken, IsLeftOn, IsSpoken, TurnsAreSpoken}
 use Rattle.pp_laws_left.proofs.Fine.{AllFine}
-use Rattle.pp_laws_left.proofs.Keep.{AtEvent, Keeps, awaits, facts_of as keeps_of, keeps, keeps_same, owes}
+use Rattle.pp_laws_left.proofs.Keep.{AtEvent, Keeps, awaits, facts_of as keeps_of, is_early, keeps, keeps_same, owes}
 use Rattle.pp_laws_left.proofs.KeepAsks.{close_client-keeps, close_conn-keeps, placing-keeps}
-use Rattle.pp_laws_left.proofs.KeepRows.{configured-keeps, load-keeps, note_gone-keeps, note_kept-keeps, opened_to-keeps}
+use Rattle.pp_laws_left.proofs.KeepRows.{load-keeps, note_gone-keeps, note_kept-keeps}
 use Rattle.pp_laws_left.proofs.KeepTurns.{come_to-keeps, deciding-keeps, tick-keeps}
 use Rattle.pp_laws_left.proofs.Laws.{ends_are_left, obeys_coming, turns_are_left}
-use Rattle.pp_laws_left.proofs.Spoken.{Spoken, facts_of, spoken_on}
+use Rattle.pp_laws_left.proofs.Fresh.{fresh_at, none_due}
+use Rattle.pp_laws_left.proofs.KeepHeads.{not_so}
+use Rattle.pp_laws_left.proofs.Spoken.{Spoken, facts_of, none_in, spoken_on}
+use Rattle.pp_laws_left.proofs.SpokenBegins.{IsFresh}
 use Rattle.pp_laws_left.proofs.SpokenChoices.{taken_spoken}
 use Rattle.pp_laws_left.proofs.SpokenHappenings.{ask-keeps, begun_op-keeps, broke-spoken, dialled-keeps, dropped-keeps, ended_op-keeps, event-keeps, evicted-keeps, forgotten_by-keeps, gone-spoken, got-spoken, hang_up-spoken, hear-spoken, nobody_spoken, opened-spoken, owing-spoken, paid-keeps, reached-keeps, said-spoken, shut-spoken, undialled-keeps, unread-keeps, waits-spoken, woken-spoken}
 use Rattle.pp_laws_left.proofs.Turns.{fine_on}
@@ -59,6 +68,10 @@ can_read s n is = sym (same_phase Awaiting s.phase (unhampered s.made_room_for (
 can_write : (s : State) (n : ℕ) → IsPermitted s (CanWrite n) → s.phase ≡ Awaiting
 unfolding is_permitted permits
 can_write s n is = sym (same_phase Awaiting s.phase (unhampered s.made_room_for (is_awaiting s) is))
+
+opens : (s : State) (n : ℕ) → IsPermitted s (Opened n) → s.phase ≡ Awaiting
+unfolding is_permitted permits
+opens s n is = sym (same_phase Awaiting s.phase (first_holds (is_awaiting s) (may_open s n) (unhampered s.made_room_for _ is)))
 
 owed_event : (s : State) (n : ℕ) → is_owed s n ≡ true → AtEvent s.phase s.owed
 owed_event s n is = owes (by s.owed is)
@@ -83,9 +96,68 @@ free_to_decide terms s log obeys on = by (is_free (come_to_decide s).owed) refl
     by true is = refl
     by false off = let both : true ≡ false = sym on ∙ handles (come_to_decide s).phase refl (t.owes off) in absurd (cc both)
 
-obeys_to : (p : Phase) (terms : List Term) (s : State) (log : Log) → Obeys terms s log → Obeys terms (come_to p s) log
+pub obeys_to : (p : Phase) (terms : List Term) (s : State) (log : Log) → Obeys terms s log → Obeys terms (come_to p s) log
 unfolding come_to
 obeys_to p terms s log obeys = obeys_coming (is_at p) phases s obeys
+
+-- ---- an opening
+
+early_at : (p : Phase) (s : State) → is_early p ≡ true → is_at p s ≡ true → is_early s.phase ≡ true
+early_at p s early at = ap is_early (sym (same_phase p s.phase at)) ∙ early
+
+configures : (s : State) (file : Bytes) (text : Option Bytes) → IsPermitted s (Configured file text) → is_early s.phase ≡ true
+unfolding is_permitted permits
+configures s file text is = early_at IsWoken s refl (first_holds (is_at IsWoken s) _ (first_holds (permits_configured s file) (may_fail s (is_some text)) (unhampered s.made_room_for _ is)))
+
+roots : (s : State) (folder : Bytes) → IsPermitted s (Rooted folder) → is_early s.phase ≡ true
+unfolding is_permitted permits
+roots s folder is = early_at IsConfigured s refl (first_holds (is_at IsConfigured s) _ (unhampered s.made_room_for (permits_rooted s folder) is))
+
+lists : (s : State) (ok : Bool) → IsPermitted s (Listed ok) → is_early s.phase ≡ true
+unfolding is_permitted permits
+lists s ok is = early_at IsRooted s refl (first_holds (is_at IsRooted s) (may_fail s ok) (unhampered s.made_room_for _ is))
+
+listens : (s : State) (port : ℕ) (ok : Bool) → IsPermitted s (Listens port ok) → is_early s.phase ≡ true
+unfolding is_permitted permits
+listens s port ok is = early_at IsListed s refl (first_holds (is_at IsListed s) (port == s.settings.port) (first_holds (is_at IsListed s && (port == s.settings.port)) (is_recovered s) (first_holds (permits_listens s port) (may_fail s ok) (unhampered s.made_room_for _ is))))
+
+opened_none : (phase : Phase) (ok : Bool) (s : State) → s.clients ≡ [] → (opened_to phase ok s).clients ≡ []
+unfolding opened_to stuck
+opened_none phase true s none = none
+opened_none phase false s none = none
+
+configured_none : (text : Option Bytes) (s : State) → s.clients ≡ [] → (configured text s).clients ≡ []
+unfolding configured stuck with_settings
+configured_none None s none = none
+configured_none (Some text) s none = by (settings_in (reading_of s.term.words (Some text)))
+  where
+    by : (o : Option Settings) → (with_settings o s).clients ≡ []
+    by None = none
+    by (Some c) = none
+
+-- ---- where a turn ends
+
+waits_by : (s : State) (w : Wants) → IsPermitted s (Waits w) → may_wait s ≡ true
+unfolding is_permitted permits
+waits_by s w is = by (may_wait s) (unhampered s.made_room_for (permits_waits s w) is)
+  where
+    by : (b : Bool) → (elim b as (λ x. Bool) [ true ↦ is_served (ending s) w | false ↦ false ]) ≡ true → b ≡ true
+    by true at = refl
+    by false at = absurd (cc at)
+
+none_there : {s t : State} → Keeps true s t → s.clients ≡ [] → t.clients ≡ []
+none_there q none = none_in client_number _ _ (keeps_of q).numbers none
+
+fresh_to_wait : (terms : List Term) (s : State) (log : Log) (w : Wants) → Obeys terms s log → IsPermitted s (Waits w) → Spoken true s → (c : Client) → IsIn c (come_to DecidingAgain s).clients → IsFresh c
+fresh_to_wait terms s log w obeys is h c i = by (is_at IsListening s) refl (waits_by s w is)
+  where
+    by : (b : Bool) → is_at IsListening s ≡ b → (b || (not s.is_stopped && may_end s)) ≡ true → IsFresh c
+    by true at may =
+        let none : s.clients ≡ [] = (facts_of h).nobody (early_at IsListening s refl at) in
+        absurd (subst (λ cs. IsIn c cs) (none_there (come_to-keeps DecidingAgain s (keeps_same s)) none) i)
+    by false at may =
+        fresh_at terms (come_to DecidingAgain s) log (obeys_to DecidingAgain terms s log obeys) (come_to-stopped DecidingAgain s ∙ not_so s.is_stopped (first_holds (not s.is_stopped) (may_end s) may)) c i
+        (none_due s (second_holds (not s.is_stopped) (may_end s) may) c i)
 
 -- ---- happening by happening
 
@@ -108,9 +180,9 @@ changed_by : {b : Since} (terms : List Term) (log : Log) (s : State) (h : Happen
 unfolding changed ending opened
 changed_by terms log s (Woke image) obeys hs is h = woken-spoken image s
 changed_by terms log s (Waits w) obeys hs is h =
-    waits-spoken w (come_to DecidingAgain s) (fine_on terms (come_to DecidingAgain s) log (obeys_to DecidingAgain terms s log obeys)) (ends_are_left terms s log obeys) (spoken_on s _ (come_to-keeps DecidingAgain s (keeps_same s)) h)
+    waits-spoken w (come_to DecidingAgain s) (fine_on terms (come_to DecidingAgain s) log (obeys_to DecidingAgain terms s log obeys)) (ends_are_left terms s log obeys) (fresh_to_wait terms s log w obeys is h) (spoken_on s _ (come_to-keeps DecidingAgain s (keeps_same s)) h)
 changed_by terms log s (Clock seconds) obeys hs is h = spoken_on s _ (event-keeps _ (tick-keeps seconds s (keeps_same s))) h
-changed_by terms log s (Opened n) obeys hs is h = spoken_on (opened n s) _ (event-keeps _ (keeps_same (opened n s))) (opened-spoken n s rise h)
+changed_by terms log s (Opened n) obeys hs is h = spoken_on (opened n s) _ (event-keeps _ (keeps_same (opened n s))) (opened-spoken n s (opens s n is) rise h)
   where
     lower : (c : Client) → IsIn c s.clients → c.number < n
     lower c i = let le : c.number ≤ s.top = (sound_facts hs).callers.given c i in let lt : s.top < n = opened_above s n is in omega arith
@@ -136,10 +208,10 @@ changed_by terms log s (Began op) obeys hs is h = spoken_on s _ (begun_op-keeps 
 changed_by terms log s (Did op ok) obeys hs is h = spoken_on s _ (ended_op-keeps op ok s (keeps_same s)) h
 changed_by terms log s (Unread name) obeys hs is h = spoken_on s _ (unread-keeps name s (keeps_same s)) h
 changed_by terms log s (Noted remark) obeys hs is h = noted_spoken terms log remark s obeys is h
-changed_by terms log s (Rooted folder) obeys hs is h = spoken_on s _ (opened_to-keeps IsRooted true s (λ e. cc e) (keeps_same s)) h
-changed_by terms log s (Listed ok) obeys hs is h = spoken_on s _ (opened_to-keeps IsListed ok s (λ e. cc e) (keeps_same s)) h
-changed_by terms log s (Listens port ok) obeys hs is h = spoken_on s _ (opened_to-keeps IsListening ok s (λ e. cc e) (keeps_same s)) h
-changed_by terms log s (Configured file text) obeys hs is h = spoken_on s _ (configured-keeps text s (keeps_same s)) h
+changed_by terms log s (Rooted folder) obeys hs is h = nobody_spoken _ (opened_none IsRooted true s ((facts_of h).nobody (roots s folder is)))
+changed_by terms log s (Listed ok) obeys hs is h = nobody_spoken _ (opened_none IsListed ok s ((facts_of h).nobody (lists s ok is)))
+changed_by terms log s (Listens port ok) obeys hs is h = nobody_spoken _ (opened_none IsListening ok s ((facts_of h).nobody (listens s port ok is)))
+changed_by terms log s (Configured file text) obeys hs is h = nobody_spoken _ (configured_none text s ((facts_of h).nobody (configures s file text is)))
 changed_by terms log s (Printed text) obeys hs is h = h
 changed_by terms log s Stopped obeys hs is h = spoken_on s _ (event-keeps (record s { is_stopped = true }) (keeps (keeps_of (keeps_same s)))) h
 

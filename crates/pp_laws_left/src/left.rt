@@ -1,5 +1,5 @@
 // What a turn leaves of replies, and of places where no head is.
-ghost use Rattle.pp_laws_left.specs.Left.{EndsAreLeft, EndsAreSpoken, TurnsAreLeft, TurnsAreSpoken};
+ghost use Rattle.pp_laws_left.specs.Left.{EndsAreLeft, EndsAreSpoken, EndsAreToPass, LeftIsLeft, TurnsAreLeft, TurnsAreSpoken};
 
 /// No reply goes on behind its end, one that is passed has no bytes of a row, and any other has its row; and a place where no head is
 /// has a page, once something was decided for it.
@@ -17,4 +17,14 @@ pub fn ends_are_left()
 pub fn turns_are_spoken()
     ensures spoken { TurnsAreSpoken }
     ensures ends { EndsAreSpoken }
+{}
+
+/// As a turn ends, whose pipe has no room may be answered by what is passed.
+pub fn ends_are_to_pass()
+    ensures pass { EndsAreToPass }
+{}
+
+/// So of what a turn leaves nothing is to be shown any more but what is said of exchanges.
+pub fn left_is_left()
+    ensures left { LeftIsLeft }
 {}
