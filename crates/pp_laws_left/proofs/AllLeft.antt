@@ -1,7 +1,4 @@
 -- The law: what a turn leaves, where what is said of exchanges holds.
-use Rattle.std.proofs.Common.{◌≡◌}
-use Rattle.pp_law.specs.Phases.{come_to}
-use Rattle.pp_law.specs.State.{DecidingAgain}
 use Rattle.pp_laws_left.specs.Left.{LeftIsLeft}
 use Rattle.pp_laws_left.proofs.Laws.{ends_are_left}
 use Rattle.pp_laws_left.proofs.Passes.{ends_are_to_pass}

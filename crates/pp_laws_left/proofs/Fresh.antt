@@ -1,23 +1,22 @@
 -- Where a turn may end nothing is passed to who is to read from a row.
-use Rattle.std.proofs.Common.{◌≡◌, ◌⊎◌, refl, ℕ, Bool, true, false, not, ◌&&◌, ◌||◌, nat_lt, List, [], ◌∷◌, is_some, Option, Some, None, inl, inr, sym, subst, ap, ◌∙◌}
+use Rattle.std.proofs.Common.{◌≡◌, ◌⊎◌, refl, Bool, true, false, not, ◌&&◌, ◌||◌, nat_lt, List, [], ◌∷◌, is_some, Option, Some, None, inl, inr, sym, ap, ◌∙◌}
 use Rattle.pp_world.specs.Log.{Log}
 use Rattle.pp_world.specs.declared.note.Decision.{Decision}
 use Rattle.pp_world.specs.declared.note.Decision.TheVariants.{Refuse, Hit, Part, Head, NotModified, Unsatisfiable, Relay, Validate, Fetch, Pass}
 use Rattle.pp_law.specs.Deciding.{span_of}
 use Rattle.pp_law.specs.Decisions.{decide, decide_head}
-use Rattle.pp_law.specs.Due.{Due, due_by_stage, due_of, due_reply, first_due, give_up, has_lost_row, is_told}
+use Rattle.pp_law.specs.Due.{Due, due_of, due_reply, first_due, give_up, has_lost_row, is_told}
 use Rattle.pp_law.specs.Lists.{first_some, is_some_with}
 use Rattle.pp_law.specs.Opening.{is_at}
 use Rattle.pp_law.specs.Phases.{come_to, is_done, is_done_with, may_end}
 use Rattle.pp_law.specs.Requests.{Front, NoHeadYet, NoHead, IsRequest}
 use Rattle.pp_law.specs.Sharing.{due_undecided}
 use Rattle.pp_law.specs.Stages.{is_followed_by, is_passing, passed_of, reply_of}
-use Rattle.pp_law.specs.State.{State, Term, DecidingAgain, Phase, Client, Instance, Passed, Reply, Stage, Undecided, Waiting, Passing, Answering}
+use Rattle.pp_law.specs.State.{State, Term, DecidingAgain, Phase, Client, Instance, Reply, Stage, Undecided, Waiting, Passing, Answering}
 use Rattle.pp_law.specs.Table.{instance, is_instance, source_of}
 use Rattle.pp_laws.specs.Runs.{IsIn}
 use Rattle.pp_laws.proofs.Lists.{in_find}
 use Rattle.pp_laws.proofs.Tests.{same_number}
-use Rattle.pp_laws_bounds.proofs.Stops.{come_to-stopped}
 use Rattle.pp_laws_coming.specs.Coming.{IsToldOn, may_have_ask}
 use Rattle.pp_laws_coming.proofs.Laws.{asks_told}
 use Rattle.pp_laws_decided.specs.Decided.{IsReadFrom}

@@ -1,5 +1,5 @@
 -- What is done to rows and chunks, to the store and in the opening leaves replies as they are.
-use Rattle.std.proofs.Common.{◌≡◌, ℕ, nat_lt, Bool, true, false, List, find, Option, Some, None}
+use Rattle.std.proofs.Common.{ℕ, nat_lt, Bool, true, false, List, find, Option, Some, None}
 use Rattle.pp_fresh.specs.declared.aging.Times.{Times}
 use Rattle.pp_text.specs.Fields.{Field}
 use Rattle.pp_valid.specs.declared.version.Version.{Version}

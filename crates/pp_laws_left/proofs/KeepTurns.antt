@@ -1,6 +1,5 @@
 -- The phases of a turn, its clock and its end leave clients at their requests.
 use Rattle.std.proofs.Common.{◌≡◌, refl, ℕ, zero, suc, ◌+◌, ◌/◌, max, nat_lt, Bool, true, false, not, ◌&&◌, List, [], ◌∷◌}
-use Rattle.pp_world.specs.declared.event.Wants.{Wants}
 use Rattle.pp_law.specs.Chunks.{chunk_len}
 use Rattle.pp_law.specs.Connections.{front_of_line, anew}
 use Rattle.pp_law.specs.Deciding.{is_for_memory, mark_row_of, enter_row}
@@ -11,7 +10,7 @@ use Rattle.pp_law.specs.Replies.{use_chunks, use_from, use_said, of_body, is_fin
 use Rattle.pp_law.specs.Requests.{key_in}
 use Rattle.pp_law.specs.State.{State, Phase, Before, IsWoken, IsConfigured, IsRooted, IsListed, IsListening, IsStuck, Awaiting, Handling, Evicting, Keeping, Deciding, Following, Connecting, DecidingAgain, Client, Conn}
 use Rattle.pp_law.specs.Table.{Next, is_next_held, next_of, row}
-use Rattle.pp_law.specs.Turn.{waits_for_exchange, marked_client, marked_conn, touch, is_leap, marks_anew, is_idle_conn, owes_answer, end_patience, close_idle_conn, woken_client, renew_marks, tick_to, tick, rested_client, rest_with}
+use Rattle.pp_law.specs.Turn.{waits_for_exchange, marked_client, marked_conn, touch, is_leap, marks_anew, is_idle_conn, owes_answer, end_patience, close_idle_conn, woken_client, renew_marks, tick_to, tick}
 use Rattle.pp_law.specs.Lists.{Bytes, is_some_with}
 use Rattle.pp_law.specs.Unseen.{is_unseen, drop_on, drop_unseen}
 use Rattle.pp_target.specs.Key.{text_of}

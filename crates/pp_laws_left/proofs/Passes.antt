@@ -1,11 +1,9 @@
 -- The law: as a turn ends, whose pipe has no room may be answered by what is passed.
-use Rattle.std.proofs.Common.{◌≡◌, refl, ℕ, Bool, true, false, not, ◌==◌, ◌&&◌, List, map, is_some, Option, Some, None, option_map, sym, subst, ap, ◌∙◌}
+use Rattle.std.proofs.Common.{◌≡◌, refl, ℕ, Bool, true, false, not, ◌==◌, ◌&&◌, Option, Some, None, option_map, sym, ap, ◌∙◌}
 use Rattle.pp_pass.specs.Pipe.{room_of}
 use Rattle.pp_reply.specs.Keeping.{is_end_known}
-use Rattle.pp_world.specs.Log.{Log}
 use Rattle.pp_world.specs.declared.note.Decision.{Decision}
 use Rattle.pp_world.specs.declared.note.Decision.TheVariants.{Pass}
-use Rattle.pp_law.specs.Asking.{pipe_room}
 use Rattle.pp_law.specs.Closing.{forsake}
 use Rattle.pp_law.specs.Connections.{is_for}
 use Rattle.pp_law.specs.Lists.{is_some_with}
@@ -14,15 +12,14 @@ use Rattle.pp_law.specs.Replies.{begin_replies, begun_at_end, begun_by, begun_de
 use Rattle.pp_law.specs.Requests.{Front, Parsed, NoHeadYet, NoHead as NoFront, IsRequest, keeps_open}
 use Rattle.pp_law.specs.Served.{has_full_pipe}
 use Rattle.pp_law.specs.Stages.{is_begun, is_passing, passed_of}
-use Rattle.pp_law.specs.State.{State, Term, Awaiting, DecidingAgain, Free, Client, Exchange, Instance, Passed, Reply, Stage, Undecided, Waiting, Passing, Answering}
+use Rattle.pp_law.specs.State.{State, Awaiting, DecidingAgain, Free, Client, Exchange, Instance, Passed, Reply, Stage, Undecided, Waiting, Passing, Answering}
 use Rattle.pp_law.specs.Table.{source_of, swept}
 use Rattle.pp_laws.specs.Runs.{IsIn}
 use Rattle.pp_laws.proofs.Lists.{From, in_map}
 use Rattle.pp_laws_coming.specs.Coming.{may_have_ask}
 use Rattle.pp_laws_coming.proofs.Laws.{asks_told}
-use Rattle.pp_laws_ends.specs.Ends.{AreToPass, may_pass}
+use Rattle.pp_laws_ends.specs.Ends.{may_pass}
 use Rattle.pp_laws_ends.proofs.Undecided.{Ends, ends_at}
-use Rattle.pp_laws_served.specs.Served.{MayEnd}
 use Rattle.pp_obeys.specs.Obeys.{Obeys}
 use Rattle.pp_laws_left.specs.Left.{EndsAreToPass}
 use Rattle.pp_laws_left.proofs.Fresh.{fresh_at}

@@ -4,7 +4,7 @@ use Rattle.pp_pass.specs.Pipe.{Pipe, without_first}
 use Rattle.pp_text.specs.Bytes.{is_empty}
 use Rattle.pp_law.specs.Lists.{Bytes, change, is_some_with}
 use Rattle.pp_law.specs.Replies.{is_said, said_by, said_of, said_of_body}
-use Rattle.pp_law.specs.Stages.{is_begun, is_passing, on_passed, passed_of, reply_of}
+use Rattle.pp_law.specs.Stages.{is_passing, on_passed, passed_of, reply_of}
 use Rattle.pp_law.specs.State.{State, Phase, Owed, Client, Passed, Passes as IsPassed, Reply, Stage, Undecided, Waiting, Passing, Answering}
 use Rattle.pp_laws.specs.Numbers.{AreRising}
 use Rattle.pp_laws.specs.Runs.{IsIn}

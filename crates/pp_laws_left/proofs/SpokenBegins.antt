@@ -1,11 +1,10 @@
 -- Replies that are decided, and that begin; and a request that is next.
-use Rattle.std.proofs.Common.{◌≡◌, refl, ℕ, ◌+◌, ◌-◌, Bool, true, false, not, ◌==◌, ◌&&◌, ◌||◌, [], drop, length, is_some, Option, Some, None, sym, subst, ap, ◌∙◌}
+use Rattle.std.proofs.Common.{◌≡◌, refl, ℕ, ◌+◌, ◌-◌, Bool, true, false, not, ◌==◌, ◌&&◌, ◌||◌, [], drop, length, is_some, Option, Some, None, sym, ap, ◌∙◌}
 use Rattle.pp_reply.specs.Keeping.{is_end_known}
 use Rattle.pp_text.specs.Bytes.{is_empty}
 use Rattle.pp_world.specs.declared.note.Decision.{Decision}
-use Rattle.pp_world.specs.declared.note.Decision.TheVariants.{Refuse, Pass}
+use Rattle.pp_world.specs.declared.note.Decision.TheVariants.{Pass}
 use Rattle.pp_law.specs.Deciding.{answering_with, asking_with, first_interim, is_pass, refused_with, stage_for}
-use Rattle.pp_law.specs.Hearing.{fronted}
 use Rattle.pp_law.specs.Lists.{Bytes, is_some_with}
 use Rattle.pp_law.specs.Replies.{begun_at_end, begun_by, begun_decided, begun_instance, begun_passed, begun_reply, is_said, may_begin, next_request, passed_reply}
 use Rattle.pp_law.specs.Requests.{Front, Parsed, NoHeadYet, NoHead as NoFront, IsRequest, keeps_open, parsed_in}
@@ -14,11 +13,10 @@ use Rattle.pp_law.specs.State.{State, Awaited, Client, Instance, Passed, Reply, 
 use Rattle.pp_law.specs.Table.{source_of}
 use Rattle.pp_laws_served.specs.Served.{IsReply}
 use Rattle.pp_laws_served.proofs.HasHeads.{HasHead, begun_head, begun_still}
-use Rattle.pp_laws_left.proofs.Begins.{heard_stage}
 use Rattle.pp_laws_left.proofs.Choices.{waits_for}
 use Rattle.pp_laws_left.proofs.Fine.{Fine, Places, begun, has_begun, one_reply, undecided}
 use Rattle.pp_laws_left.proofs.Keep.{begun_in, passed_in}
-use Rattle.pp_laws_left.proofs.Spoken.{Passes, Reads, Speaks, is_whole, never, no_test, said_in}
+use Rattle.pp_laws_left.proofs.Spoken.{Passes, Reads, Speaks, is_whole, never, said_in}
 
 -- ---- what is decided
 

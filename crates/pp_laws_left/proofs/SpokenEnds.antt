@@ -2,13 +2,12 @@
 use Rattle.std.proofs.Common.{◌≡◌, refl, ℕ, Bool, true, false, not, ◌==◌, ◌&&◌, ◌||◌, List, [], ◌∷◌, map, Option, Some, None, inl, inr, sym, subst, ap, ◌∙◌}
 use Rattle.pp_law.specs.Closing.{close_client, forsake, is_of}
 use Rattle.pp_law.specs.Connections.{client, each_client, is_client, on_client}
-use Rattle.pp_law.specs.Lists.{change}
 use Rattle.pp_law.specs.Replies.{close_finished, end_replies, end_reply, end_said, is_said, next_request}
 use Rattle.pp_law.specs.State.{State, Client}
 use Rattle.pp_law.specs.Table.{swept}
 use Rattle.pp_laws.specs.Numbers.{AreRising}
 use Rattle.pp_laws.specs.Runs.{IsIn}
-use Rattle.pp_laws.proofs.Lists.{Changed, changed_at, in_change, in_find, map_kept, other, rise_change, same}
+use Rattle.pp_laws.proofs.Lists.{Changed, changed_at, in_change, in_find, map_kept, other, same}
 use Rattle.pp_laws.proofs.Sound.{client_number}
 use Rattle.pp_laws.proofs.Tests.{number_same, same_number}
 use Rattle.pp_laws_bounds.proofs.Counts.{in_map_of}

@@ -1,25 +1,23 @@
 -- Each permitted happening leaves no reply that was said whole, and one that is passed has its response.
-use Rattle.std.proofs.Common.{◌≡◌, ◌⊎◌, refl, ℕ, ◌+◌, ◌≤◌, Bool, true, false, not, ◌-◌, ◌&&◌, ◌||◌, List, [], ◌∷◌, ◌++◌, drop, length, map, is_some, Option, Some, None, inl, inr, sym, subst, ap, ◌∙◌}
+use Rattle.std.proofs.Common.{◌≡◌, ◌⊎◌, refl, ℕ, Bool, true, false, not, ◌-◌, ◌&&◌, [], ◌++◌, drop, length, map, Option, Some, None, inl, inr, sym, subst, ap, ◌∙◌}
 use Rattle.pp_conf.specs.Conf.{Settings}
 use Rattle.pp_conf.specs.Words.{reading_of}
 use Rattle.pp_world.specs.Files.{Files}
 use Rattle.pp_world.specs.declared.event.Wants.{Wants}
 use Rattle.pp_world.specs.declared.op.DiskOp.{DiskOp}
-use Rattle.pp_law.specs.After.{begun_op, dialled, dropped, ended_op, event, evicted, forgotten_by, gone, leave_memory, new_client, new_conn, opened, out, owing, paid, reached, refused_dial, refused_row, said, shut, undialled, unread, waits_for_row}
+use Rattle.pp_law.specs.After.{begun_op, dialled, dropped, ended_op, event, evicted, forgotten_by, gone, leave_memory, new_client, opened, out, owing, paid, reached, refused_dial, refused_row, said, shut, undialled, unread, waits_for_row}
 use Rattle.pp_law.specs.Asking.{ask, ask_body, ask_next, asked_body, asked_text, asking, hang_up, hear, is_writing}
-use Rattle.pp_law.specs.Chunks.{drop_chunk}
 use Rattle.pp_law.specs.Closing.{close_client, forsake}
-use Rattle.pp_law.specs.Connections.{client, close_conn, conn, is_client, is_outstanding, lose_attempt, may_ask_again, on_client, on_conn, on_exchange, placing, Placement}
-use Rattle.pp_law.specs.Followers.{fill}
+use Rattle.pp_law.specs.Connections.{client, close_conn, conn, is_client, is_outstanding, may_ask_again, on_client, on_conn, Placement}
 use Rattle.pp_law.specs.Hearing.{fronted, heard_by, what_counts}
 use Rattle.pp_law.specs.Leaving.{Leaving, ForAnother, ForMemory, BeforeDecision, leaving_as}
 use Rattle.pp_law.specs.Lists.{Bytes}
 use Rattle.pp_law.specs.Opening.{are_texts, begun, is_opening, names_file, settings_in, with_settings, woken}
-use Rattle.pp_law.specs.Phases.{come_to, due_victim, is_free}
-use Rattle.pp_law.specs.Replies.{begin_replies, begun_at_end, end_replies, is_outrun, said_by, use_said}
+use Rattle.pp_law.specs.Phases.{due_victim}
+use Rattle.pp_law.specs.Replies.{begin_replies, begun_at_end, end_replies, said_by, use_said}
 use Rattle.pp_law.specs.Requests.{Front, NoHeadYet, NoHead, IsRequest}
 use Rattle.pp_law.specs.Responses.{close_this, ended, finish_first, got, is_whole_at_end}
-use Rattle.pp_law.specs.State.{State, Answer, Client, Conn, Exchange, Free, Handling, Evicting, Keeping, Connecting, Instance, IsWoken, Owed, Awaiting, RowRefused}
+use Rattle.pp_law.specs.State.{State, Answer, Client, Conn, Exchange, Free, Handling, Evicting, Keeping, Instance, IsWoken, Owed, Awaiting, RowRefused}
 use Rattle.pp_law.specs.Table.{forget, swept}
 use Rattle.pp_law.specs.Turn.{rested_client, rest_with, touch}
 use Rattle.pp_laws.specs.Numbers.{AreRising}
@@ -30,12 +28,12 @@ use Rattle.pp_laws_turn.proofs.Same.{begun_at_end-same, said_by-same}
 use Rattle.pp_laws_left.specs.Left.{IsLeftOn}
 use Rattle.pp_laws_left.proofs.Fine.{AllFine, all_of}
 use Rattle.pp_laws_left.proofs.Keep.{AtEvent, Keeps, Kept, as_it_was, awaits, clients_changed, facts_of as keeps_of, is_early, keeps, keeps_same, owes}
-use Rattle.pp_laws_left.proofs.KeepAsks.{close_client-keeps, close_conn-keeps, end_exchange-keeps, fill-keeps, forsake-keeps, lose_attempt-keeps, on_client-keeps, on_client_of-keeps, on_conn-keeps, on_exchange-keeps, placing-keeps, put_on-keeps}
+use Rattle.pp_laws_left.proofs.KeepAsks.{close_client-keeps, close_conn-keeps, end_exchange-keeps, fill-keeps, lose_attempt-keeps, on_client-keeps, on_client_of-keeps, on_conn-keeps, on_exchange-keeps, placing-keeps, put_on-keeps}
 use Rattle.pp_laws_left.proofs.KeepCases.{by_pause, each_of, when}
 use Rattle.pp_laws_left.proofs.KeepHeads.{ended-keeps, got-keeps}
-use Rattle.pp_laws_left.proofs.KeepRows.{begin_in_opening-keeps, begin_in_turn-keeps, close_name-keeps, drop_chunk-keeps, end_op-keeps, forget-keeps, lose_in_opening-keeps, swept-keeps}
+use Rattle.pp_laws_left.proofs.KeepRows.{begin_in_opening-keeps, begin_in_turn-keeps, close_name-keeps, drop_chunk-keeps, end_op-keeps, forget-keeps, lose_in_opening-keeps}
 use Rattle.pp_laws_left.proofs.KeepTurns.{come_to-keeps, come_to_decide-keeps, in_phase-keeps, regained-keeps, touch-keeps, use_said-keeps}
-use Rattle.pp_laws_left.proofs.Spoken.{Passes, Speaks, Spoken, changed_spoken, facts_of, filtered_spoken, said_speaks, spoken, spoken_got, spoken_on}
+use Rattle.pp_laws_left.proofs.Spoken.{Speaks, Spoken, changed_spoken, facts_of, filtered_spoken, said_speaks, spoken, spoken_got, spoken_on}
 use Rattle.pp_laws_left.proofs.SpokenBegins.{IsFresh, begun_speaks, none_speaks}
 use Rattle.pp_laws_left.proofs.SpokenEnds.{end_replies-spoken}
 

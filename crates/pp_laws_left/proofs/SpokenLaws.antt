@@ -1,5 +1,5 @@
 -- The laws: no reply that was said whole goes on, and one that is passed has its response.
-use Rattle.std.proofs.Common.{◌≡◌, refl, ℕ, Bool, true, false, ◌<◌, ◌≤◌, not, ◌==◌, ◌&&◌, ◌||◌, map, List, [], ◌∷◌, ◌++◌, length, is_some, Option, Some, None, inl, inr, sym, subst, ap, ◌∙◌, arith}
+use Rattle.std.proofs.Common.{◌≡◌, refl, ℕ, Bool, true, false, ◌<◌, ◌≤◌, not, ◌==◌, ◌&&◌, ◌||◌, map, List, [], ◌∷◌, length, is_some, Option, Some, None, sym, subst, ap, ◌∙◌, arith}
 use Rattle.std.proofs.lemmas.List.{append-nil}
 use Rattle.pp_conf.specs.Conf.{Settings}
 use Rattle.pp_conf.specs.Words.{reading_of}
@@ -9,29 +9,25 @@ use Rattle.pp_world.specs.declared.happening.Happening.{Happening}
 use Rattle.pp_world.specs.declared.happening.Happening.TheVariants.{Woke, Waits, Clock, Opened, CanRead, CanWrite, Heard, HungUp, Said, Shut, Dialled, Undialled, Reached, Ended, Broke, Asked, Got, Dropped, NoneYet, Began, Did, Unread, Noted, Rooted, Listed, Listens, Configured, Printed, Stopped}
 use Rattle.pp_world.specs.declared.note.Remark.{Remark}
 use Rattle.pp_world.specs.declared.note.Remark.TheVariants.{Taken, Cut, Kept, Gone, Forgotten, Evicted, Loaded}
-use Rattle.pp_law.specs.After.{after, changed, event, new_client, gone, noted, opened, owing, paid, said}
-use Rattle.pp_law.specs.Asking.{hang_up, hear, is_reading}
+use Rattle.pp_law.specs.After.{changed, new_client, noted, opened, owing, paid}
 use Rattle.pp_law.specs.Lawful.{Lawful}
 use Rattle.pp_law.specs.Lists.{Bytes}
 use Rattle.pp_law.specs.Opening.{configured, is_at, is_recovered, is_same_phase, may_fail, opened_to, permits_configured, permits_listens, permits_rooted, settings_in, stuck, with_settings}
 use Rattle.pp_law.specs.Permits.{IsPermitted, is_owed, is_permitted, may_open, may_take, may_wait, permits, permits_taken, permits_waits}
 use Rattle.pp_law.specs.Phases.{come_to, come_to_decide, decides, ending, is_awaiting, is_done, is_free, may_end, phases}
-use Rattle.pp_law.specs.Replies.{is_said}
 use Rattle.pp_law.specs.Served.{is_served}
-use Rattle.pp_law.specs.Stages.{is_passing, passed_of}
-use Rattle.pp_law.specs.State.{State, Term, Phase, IsWoken, IsConfigured, Awaiting, Handling, Evicting, Keeping, Deciding, Connecting, DecidingAgain, IsListed, IsListening, IsRooted, Owed, Free, ReadOf, WriteTo, Client, Reply, Answering, start}
+use Rattle.pp_law.specs.State.{State, Term, Phase, IsWoken, IsConfigured, Awaiting, Handling, Evicting, Keeping, Deciding, Connecting, DecidingAgain, IsListed, IsListening, IsRooted, Owed, Free, ReadOf, WriteTo, Client, start}
 use Rattle.pp_laws.specs.Numbers.{AreRising}
 use Rattle.pp_laws.specs.Runs.{IsIn, state_after}
 use Rattle.pp_laws.proofs.Lists.{rise_push}
 use Rattle.pp_laws.proofs.Sound.{Since, Sound, client_number, facts_of as sound_facts}
 use Rattle.pp_laws.proofs.Tests.{first_holds, second_holds}
 use Rattle.pp_laws_bounds.proofs.Stops.{come_to-stopped}
-use Rattle.pp_laws_coming.proofs.Permitted.{cut_decides, ended_owed, got_owed, opened_above}
+use Rattle.pp_laws_coming.proofs.Permitted.{ended_owed, got_owed, opened_above}
 use Rattle.pp_laws_ends.proofs.Undecided.{Ends, ends_at}
-use Rattle.pp_laws_pool.proofs.Along.{Next, Steps, along}
+use Rattle.pp_laws_pool.proofs.Along.{Steps, along}
 use Rattle.pp_laws_replies.proofs.Usable.{permitted_taken}
 use Rattle.pp_laws_room.proofs.Coming.{by_coming}
-use Rattle.pp_laws_served.specs.Served.{IsReply, MayEnd}
 use Rattle.pp_laws_turn.specs.SoundTurn.{IsSoundTurn}
 use Rattle.pp_laws_turn.proofs.Happenings.{gate}
 use Rattle.pp_laws_turn.proofs.Laws.{sound_turns}
@@ -40,10 +36,9 @@ use Rattle.pp_law.proofs.Prefixes.{front_from}
 use Rattle.pp_obeys.specs.Obeys.{Obeys}
 use Rattle.pp_obeys.proofs.Come.{same_phase}
 use Rattle.pp_obeys.proofs.Obeying.{log-good, obeys_at_first}
-use Rattle.pp_laws_left.specs.Left.{EndsAreSpoken, IsLeftOn, IsSpoken, TurnsAreSpoken}
-use Rattle.pp_laws_left.proofs.Fine.{AllFine}
-use Rattle.pp_laws_left.proofs.Keep.{AtEvent, Keeps, awaits, facts_of as keeps_of, is_early, keeps, keeps_same, owes}
-use Rattle.pp_laws_left.proofs.KeepAsks.{close_client-keeps, close_conn-keeps, placing-keeps}
+use Rattle.pp_laws_left.specs.Left.{EndsAreSpoken, TurnsAreSpoken}
+use Rattle.pp_laws_left.proofs.Keep.{AtEvent, Keeps, facts_of as keeps_of, is_early, keeps, keeps_same, owes}
+use Rattle.pp_laws_left.proofs.KeepAsks.{close_client-keeps, placing-keeps}
 use Rattle.pp_laws_left.proofs.KeepRows.{load-keeps, note_gone-keeps, note_kept-keeps}
 use Rattle.pp_laws_left.proofs.KeepTurns.{come_to-keeps, deciding-keeps, tick-keeps}
 use Rattle.pp_laws_left.proofs.Laws.{ends_are_left, obeys_coming, turns_are_left}

@@ -1,4 +1,4 @@
--- What a turn leaves of replies, and of places where no head is (RFC 2616, sections 5.1, 6 and 10.4). All of it is ours.
+-- What a turn leaves of replies, of what is said and passed, and of places where no head is (RFC 2616, sections 5.1, 6 and 10.4). All of it is ours.
 use Rattle.std.specs.Prelude.{◌≡◌, ◌⊎◌, ℕ, ◌≤◌, nat_lt, true, false, List, is_some, Some}
 use Rattle.pp_world.specs.Log.{Log}
 use Rattle.pp_law.specs.Asking.{has_room}

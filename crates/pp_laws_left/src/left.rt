@@ -1,4 +1,4 @@
-// What a turn leaves of replies, and of places where no head is.
+// What a turn leaves of replies, of what is said and passed, and of places where no head is.
 ghost use Rattle.pp_laws_left.specs.Left.{EndsAreLeft, EndsAreSpoken, EndsAreToPass, LeftIsLeft, TurnsAreLeft, TurnsAreSpoken};
 
 /// No reply goes on behind its end, one that is passed has no bytes of a row, and any other has its row; and a place where no head is
