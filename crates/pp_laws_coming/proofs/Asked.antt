@@ -1,5 +1,5 @@
 -- A request that is refused, or for which an origin is asked, keeps it.
-use Rattle.std.proofs.Common.{◌≡◌, refl, ℕ, Bool, true, false, not, ◌==◌, List, filter, Option, Some, None, Result, Ok, Err, sym, subst, ap, ◌∙◌}
+use Rattle.std.proofs.Common.{◌≡◌, refl, ℕ, ◌≤◌, Bool, true, false, not, ◌==◌, List, filter, Option, Some, None, Result, Ok, Err, sym, subst, ap, ◌∙◌, le_refl, zero-le}
 use Rattle.pp_ask.specs.declared.kind.AskKind.{AskKind}
 use Rattle.pp_head.specs.Request.{Request}
 use Rattle.pp_target.specs.Key.{Key, text_of}
@@ -85,8 +85,9 @@ pass_sourced false = refl
 asking_settled : (xs : List Instance) (next_row : ℕ) (d : Decision) (c : Client) → Settled xs next_row (asking_with d c)
 asking_settled xs next_row d c = unsourced xs next_row (asking_with d c) (pass_sourced (is_pass d)) (λ off. refl)
 
-asking_told : (xs : List Instance) (e : Exchange) (d : Decision) (c : Client) → filled_of e ≡ None → key_in c.front ≡ Some e.key → IsTold xs e (asking_with d c)
-asking_told xs e d c none key = record {
+asking_told : (xs : List Instance) (e : Exchange) (d : Decision) (c : Client) → filled_of e ≡ None → e.body_left ≤ c.body_left → key_in c.front ≡ Some e.key → IsTold xs e (asking_with d c)
+asking_told xs e d c none left key = record {
+  left = left;
   waits = λ fills off. record { stage = pass_waits (is_pass d); brought = refl };
   untold = λ off. refl;
   coming = refl;
@@ -103,11 +104,15 @@ ask_for-comes c d head key kind s keyed there h =
     (begin_exchange-comes (new_exchange s c head key d kind) c.number _ refl refl refl refl refl (λ x i is. told x is (in_change (is_client c.number) (asking_with d) x s.clients i))
     (leaves-comes c.number (asking_with d) s (λ x. refl) (λ x i is. asking_settled s.instances s.next_instance d x) h))
   where
+    pass_left : (pass : Bool) {y : Client} → y ≡ c → (elim pass as (λ x. ℕ) [ true ↦ c.body_left | false ↦ 0 ]) ≤ y.body_left
+    pass_left true eq = subst (λ (z : Client). c.body_left ≤ z.body_left) (sym eq) (le_refl c.body_left)
+    pass_left false eq = zero-le
+
     told : (x : Client) → x.number ≡ c.number → Changed (is_client c.number) (asking_with d) s.clients x → IsTold s.instances (new_exchange s c head key d kind) x
     told x is (same j isnt) = let both : true ≡ false = sym (number_same c.number) ∙ ap (λ (n : ℕ). n == c.number) (sym is) ∙ isnt in absurd (cc both)
     told x is (other y j hit eq) =
         let one : y ≡ c = (facts_of h).callers y c j there (same_number y.number c.number hit) in
-        subst (λ (z : Client). IsTold s.instances (new_exchange s c head key d kind) z) (sym eq) (asking_told s.instances (new_exchange s c head key d kind) d y (pass_fills (is_pass d)) (ap (λ (z : Client). key_in z.front) one ∙ keyed))
+        subst (λ (z : Client). IsTold s.instances (new_exchange s c head key d kind) z) (sym eq) (asking_told s.instances (new_exchange s c head key d kind) d y (pass_fills (is_pass d)) (pass_left (is_pass d) one) (ap (λ (z : Client). key_in z.front) one ∙ keyed))
 
 ask_as-comes : {late : Bool} → (c : Client) (d : Decision) (head : Request) (key : Key) (s : State) → key_in c.front ≡ Some key → IsIn c s.clients → Holds (Coming late) s → Holds (Coming late) (ask_as c d head key s)
 unfolding ask_as

@@ -71,5 +71,5 @@ unfolding regained
 regained-comes s h = all_clients-comes (regained_by s) s (λ c. by c (is_some_with (is_next_held s) (next_of s c))) h
   where
     by : (c : Client) (held : Bool) → Goes (elim held as (λ y. Client) [ true ↦ record c { course = anew c.course } | false ↦ c ]) c
-    by c true = goes_as _ c refl refl refl refl
+    by c true = goes_as _ c refl refl refl refl refl
     by c false = goes_on c

@@ -29,6 +29,7 @@ pub record IsTold (xs : List Instance) (e : Exchange) (c : Client) : Type 0 wher
   pub coming : IsComing c
   pub stands : may_have_ask c.stage ≡ true
   pub fills : (v : Version) → filled_of e ≡ Some v → is_waiting c.stage ≡ false
+  pub left : e.body_left ≤ c.body_left
   pub key : key_in c.front ≡ Some e.key
   pub bound : filled_of e ≡ None → (x : Instance) → IsIn x xs → Follows x c → IsBoundTo x.id e
 
@@ -115,6 +116,7 @@ rows {late} xs next v from h = record {
     coming = told.coming;
     stands = told.stands;
     fills = told.fills;
+    left = told.left;
     key = told.key;
     bound = λ fills x k follows. (
         let w = was_followed v xs next from x c k (h.settled c j).given follows in

@@ -1,5 +1,5 @@
 -- Asks of followers keep it.
-use Rattle.std.proofs.Common.{◌≡◌, refl, ℕ, Bool, true, false, not, ◌||◌, nat_lt, Option, Some, None, Result, Ok, Err, sym, subst, ap, ◌∙◌}
+use Rattle.std.proofs.Common.{◌≡◌, refl, ℕ, ◌≤◌, Bool, true, false, not, ◌||◌, nat_lt, Option, Some, None, Result, Ok, Err, sym, subst, ap, ◌∙◌, zero-le}
 use Rattle.pp_plan.specs.Need.{need}
 use Rattle.pp_target.specs.Key.{Key}
 use Rattle.pp_target.specs.declared.target.TargetFault.{TargetFault}
@@ -80,13 +80,13 @@ next_there s c n here is = going c.is_closing is
 abbrev Answers : Client → Type 0
 Answers c = (may_have_ask c.stage ≡ true) × (is_waiting c.stage ≡ false)
 
-fill_with-comes : {late : Bool} → (e : Exchange) (v : Version) (c : Client) (s : State) → e.number ≡ s.next_exchange → e.place ≡ None → e.asked ≡ 0 → is_headed e ≡ false → e.asker ≡ Some c.number → filled_of e ≡ Some v → key_in c.front ≡ Some e.key → IsIn c s.clients → passed_of c ≡ None → Answers c → Holds (Coming late) s
+fill_with-comes : {late : Bool} → (e : Exchange) (v : Version) (c : Client) (s : State) → e.number ≡ s.next_exchange → e.place ≡ None → e.asked ≡ 0 → is_headed e ≡ false → e.asker ≡ Some c.number → filled_of e ≡ Some v → key_in c.front ≡ Some e.key → IsIn c s.clients → passed_of c ≡ None → Answers c → e.body_left ≡ 0 → Holds (Coming late) s
     → Holds (Coming late) (fill_with e c s)
 unfolding fill_with
-fill_with-comes e v c s number place asked unheaded asks fills keyed there nothing standing h =
+fill_with-comes e v c s number place asked unheaded asks fills keyed there nothing standing nothing_left h =
     when (fits e.text)
     (begin_exchange-comes e c.number s number place asked unheaded asks (λ d i is. subst (λ (x : Client). IsTold s.instances e x) ((facts_of h).callers c d there i (sym is)) told) h)
-    (on_client-comes c.number (λ x. record x { course = AskTooLong }) s (λ x. refl) (λ x i hit. goes_as _ x refl refl refl refl) h)
+    (on_client-comes c.number (λ x. record x { course = AskTooLong }) s (λ x. refl) (λ x i hit. goes_as _ x refl refl refl refl refl) h)
   where
     told : IsTold s.instances e c
     told = record {
@@ -95,6 +95,7 @@ fill_with-comes e v c s number place asked unheaded asks fills keyed there nothi
       coming = ap (λ (o : Option Passed). is_some_with (λ p. p.pipe.is_finished) o) nothing;
       stands = standing.0;
       fills = λ w is. standing.1;
+      left = subst (λ m. m ≤ c.body_left) (sym nothing_left) zero-le;
       key = keyed;
       bound = λ none x i follows. (let both : None ≡ Some v = sym none ∙ fills in absurd (cc both));
     }
@@ -104,7 +105,7 @@ unfolding fill_span
 fill_span-comes {late} c n span s there nothing standing h = by c.front refl
   where
     by_key : (r : Parsed) (k : Result Key TargetFault) → c.front ≡ IsRequest r → r.key ≡ k → Holds (Coming late) (elim k as (λ x. State) [ Ok key ↦ fill_with (filling_exchange s c r.head key n span) c s | Err fault ↦ s ])
-    by_key r (Ok key) front is = fill_with-comes (filling_exchange s c r.head key n span) n.source.version c s refl refl refl refl refl refl (key_at c r key front is) there nothing standing h
+    by_key r (Ok key) front is = fill_with-comes (filling_exchange s c r.head key n span) n.source.version c s refl refl refl refl refl refl (key_at c r key front is) there nothing standing refl h
     by_key r (Err fault) front is = h
 
     by : (front : Front) → c.front ≡ front → Holds (Coming late) (elim front as (λ x. State) [

@@ -1,5 +1,5 @@
 -- A reply by a row, or by what is passed, keeps it, and so does each decision.
-use Rattle.std.proofs.Common.{◌≡◌, refl, ℕ, ◌<◌, Bool, true, false, not, ◌==◌, ◌&&◌, ◌||◌, bytes_eq, max, min, nat_le, nat_lt, List, filter, Option, Some, None, sym, subst, ap, ◌∙◌, arith}
+use Rattle.std.proofs.Common.{◌≡◌, refl, ℕ, ◌<◌, Bool, true, false, not, ◌==◌, ◌&&◌, ◌||◌, bytes_eq, max, min, nat_le, nat_lt, List, filter, Option, Some, None, sym, subst, ap, ◌∙◌, le_refl, arith}
 use Rattle.std.proofs.lemmas.Bool.Decides.{nat_tests}
 use Rattle.pp_plan.specs.Need.{is_near}
 use Rattle.pp_target.specs.Key.{text_of}
@@ -124,6 +124,7 @@ follow_with-comes c r x s source row_there nothing h =
           coming = before.coming;
           stands = lasts r.has_begun (is_passing r.decision) (nat_lt 0 r.to) (some_to r.at r.to (first_holds (nat_lt r.at r.to) _ serving));
           fills = λ v is. refl;
+          left = before.left;
           key = before.key;
           bound = λ fills y k follows. subst (λ n. IsBoundTo n e) (its_row y.id follows.source) (serves_bound x r e serving fills).1;
         })
@@ -149,6 +150,7 @@ relay-comes c s brought h =
       waits = λ w. absurd (brought d i (same_number d.number c.number hit) w.brought);
       coming = λ is. is;
       answers = λ off. refl;
+      left = λ key is. le_refl d.body_left;
     }) h)
 
 -- what it rests on: the client is there, and was brought what the decision is by

@@ -88,6 +88,7 @@ told_at s h = record {
       waits = t.waits;
       stands = t.stands;
       fills = t.fills;
+      left = t.left;
       bound = λ fills x i by_row. let b = t.bound fills x i (follows_it c x by_row) in record { to = b.to; is = b.is; instance = b.instance };
       key = t.key;
     }

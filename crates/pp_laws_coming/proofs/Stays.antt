@@ -1,5 +1,5 @@
 -- Which changes of clients keep it.
-use Rattle.std.proofs.Common.{◌≡◌, refl, ℕ, Bool, true, false, List, map, Option, Some, None, sym, subst, ap, ◌∙◌}
+use Rattle.std.proofs.Common.{◌≡◌, refl, ℕ, ◌≤◌, Bool, true, false, List, map, Option, Some, None, sym, subst, ap, ◌∙◌, le_refl, le_trans}
 use Rattle.pp_target.specs.Key.{Key}
 use Rattle.pp_law.specs.Connections.{is_client}
 use Rattle.pp_law.specs.Lists.{change, is_some_with}
@@ -29,12 +29,13 @@ pub record Goes (d c : Client) : Type 0 where
   pub waits : Waits c → Waits d
   pub coming : IsComing c → IsComing d
   pub answers : is_waiting c.stage ≡ false → is_waiting d.stage ≡ false
+  pub left : (key : Key) → key_in c.front ≡ Some key → c.body_left ≤ d.body_left
 
 pub stays_on : (c : Client) → Stays c c
 stays_on c = record { number = refl; source = λ id is. is; front = λ key is. is; untold = λ none. none; stands = λ is. is }
 
 pub goes_on : (c : Client) → Goes c c
-goes_on c = record { stays = stays_on c; waits = λ w. w; coming = λ is. is; answers = λ off. off }
+goes_on c = record { stays = stays_on c; waits = λ w. w; coming = λ is. is; answers = λ off. off; left = λ key is. le_refl c.body_left }
 
 abbrev pub passed_in : Brought → Option Passed
 passed_in b = elim b as (λ x. Option Passed) [ Awaited ↦ None | Useless ↦ None | Joins id plain ↦ None | Passes p ↦ Some p | TooWide ↦ None ]
@@ -43,16 +44,17 @@ passed_in b = elim b as (λ x. Option Passed) [ Awaited ↦ None | Useless ↦ N
 abbrev pub is_whole_in : Brought → Bool
 is_whole_in b = is_some_with (λ p. p.pipe.is_finished) (elim b as (λ x. Option Passed) [ Awaited ↦ None | Useless ↦ None | Joins id plain ↦ None | Passes p ↦ Some p | TooWide ↦ None ])
 
-pub goes_at : (d c : Client) → d.number ≡ c.number → ((key : Key) → key_in c.front ≡ Some key → key_in d.front ≡ Some key) → d.stage ≡ c.stage → d.brought ≡ c.brought → Goes d c
-goes_at d c number front stage brought = record {
+pub goes_at : (d c : Client) → d.number ≡ c.number → ((key : Key) → key_in c.front ≡ Some key → key_in d.front ≡ Some key) → d.stage ≡ c.stage → d.brought ≡ c.brought → ((key : Key) → key_in c.front ≡ Some key → c.body_left ≤ d.body_left) → Goes d c
+goes_at d c number front stage brought left = record {
+  left = left;
   stays = record { number = number; source = λ id is. sym (ap source_in stage) ∙ is; front = front; untold = λ none. ap passed_in brought ∙ none; stands = λ is. ap may_have_ask stage ∙ is };
   waits = λ w. record { stage = ap is_waiting stage ∙ w.stage; brought = brought ∙ w.brought };
   coming = λ is. ap is_whole_in brought ∙ is;
   answers = λ off. ap is_waiting stage ∙ off;
 }
 
-pub goes_as : (d c : Client) → d.number ≡ c.number → d.front ≡ c.front → d.stage ≡ c.stage → d.brought ≡ c.brought → Goes d c
-goes_as d c number front stage brought = goes_at d c number (λ key is. ap key_in front ∙ is) stage brought
+pub goes_as : (d c : Client) → d.number ≡ c.number → d.front ≡ c.front → d.stage ≡ c.stage → d.brought ≡ c.brought → d.body_left ≡ c.body_left → Goes d c
+goes_as d c number front stage brought left = goes_at d c number (λ key is. ap key_in front ∙ is) stage brought (λ key is. subst (λ n. c.body_left ≤ n) (sym left) (le_refl c.body_left))
 
 pub goes_if : (f : Client → Client) (c : Client) (t : Bool) → Goes (f c) c → Goes (elim t as (λ x. Client) [ true ↦ f c | false ↦ c ]) c
 goes_if f c true goes = goes
@@ -87,6 +89,7 @@ told_on xs e d c goes told = record {
   coming = goes.coming told.coming;
   stands = goes.stays.stands told.stands;
   fills = λ v is. goes.answers (told.fills v is);
+  left = le_trans told.left (goes.left e.key told.key);
   key = goes.stays.front e.key told.key;
   bound = λ fills x i follows. told.bound fills x i (follows_on x d c goes.stays follows);
 }

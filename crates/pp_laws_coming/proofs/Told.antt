@@ -1,5 +1,5 @@
 -- A head that came to an exchange, and what its client is told by it, keep it.
-use Rattle.std.proofs.Common.{◌≡◌, ◌⊎◌, refl, ℕ, ◌<◌, Bool, true, false, not, ◌==◌, List, Option, Some, None, inl, inr, sym, subst, ap, ◌∙◌}
+use Rattle.std.proofs.Common.{◌≡◌, ◌⊎◌, refl, ℕ, ◌<◌, ◌≤◌, Bool, true, false, not, ◌==◌, List, Option, Some, None, inl, inr, sym, subst, ap, ◌∙◌}
 use Rattle.pp_law.specs.Connections.{is_exchange, is_for}
 use Rattle.pp_law.specs.Lists.{change, is_this}
 use Rattle.pp_law.specs.OwnHeads.{is_asked_by, key_of}
@@ -30,6 +30,7 @@ record WasHeaded (e : Exchange) (es : List Exchange) (d : Exchange) : Type 0 whe
   place : d.place ≡ was.place
   asked : d.asked ≡ was.asked
   key : d.key ≡ was.key
+  left : d.body_left ≡ was.body_left
   headed : ((is_headed d ≡ is_headed was) × BoundOn d was) ⊎ ((was ≡ e) × (is_headed d ≡ true))
 
 module _ (e : Exchange) (body : Body) (come : is_pending body ≡ false) (cs : List Client) (es : List Exchange) (next : ℕ) (xs : List Instance) (next_row : ℕ) (there : IsIn e es) (placed : e.place ≡ None → ⊥)
@@ -38,7 +39,7 @@ module _ (e : Exchange) (body : Body) (come : is_pending body ≡ false) (cs : L
   was_headed d i = by (in_change (is_exchange e.number) (with_body body) d es i)
     where
       by : Changed (is_exchange e.number) (with_body body) es d → WasHeaded e es d
-      by (same j isnt) = record { was = d; there = j; number = refl; fills = refl; asker = refl; place = refl; asked = refl; key = refl; headed = inl (refl, same_bound d d refl) }
+      by (same j isnt) = record { was = d; there = j; number = refl; fills = refl; asker = refl; place = refl; asked = refl; key = refl; left = refl; headed = inl (refl, same_bound d d refl) }
       by (other x j hit eq) = record {
         was = x;
         there = j;
@@ -48,6 +49,7 @@ module _ (e : Exchange) (body : Body) (come : is_pending body ≡ false) (cs : L
         place = ap (λ (y : Exchange). y.place) eq;
         asked = ap (λ (y : Exchange). y.asked) eq;
         key = ap (λ (y : Exchange). y.key) eq;
+        left = ap (λ (y : Exchange). y.body_left) eq;
         headed = inr (h.apart x e j there (same_number x.number e.number hit), ap is_headed eq ∙ ap not come);
       }
 
@@ -89,6 +91,7 @@ module _ (e : Exchange) (body : Body) (come : is_pending body ≡ false) (cs : L
             coming = told.coming;
             stands = told.stands;
             fills = λ v is. told.fills v (sym r.fills ∙ is);
+            left = subst (λ m. m ≤ c.body_left) (sym r.left) told.left;
             key = key;
             bound = λ fills x k follows. (
                 let b = told.bound (sym r.fills ∙ fills) x k follows in
@@ -101,6 +104,7 @@ module _ (e : Exchange) (body : Body) (come : is_pending body ≡ false) (cs : L
             coming = told.coming;
             stands = told.stands;
             fills = λ v is. told.fills v (sym r.fills ∙ is);
+            left = subst (λ m. m ≤ c.body_left) (sym r.left) told.left;
             key = key;
             bound = λ fills x k follows. absurd ((keyed n c x (ap (λ (y : Exchange). y.asker) (sym at.0) ∙ asks) j is k follows).0 (ap filled_of (sym at.0) ∙ sym r.fills ∙ fills));
           }
@@ -158,6 +162,7 @@ module _ (e : Exchange) (body : Body) (come : is_pending body ≡ false) (cs : L
             coming = more;
             stands = before.stands;
             fills = before.fills;
+            left = before.left;
             key = before.key;
             bound = λ fills y k follows. before.bound fills y k (record { stands = follows.stands; source = follows.source });
           })

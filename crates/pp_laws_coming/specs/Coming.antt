@@ -1,6 +1,6 @@
 -- What an exchange and its client tell of each other, in each state that a lawful log may go on as from, also amid a turn (RFC 2616,
 -- sections 6 and 8.1.4). What is not marked is ours.
-use Rattle.std.specs.Prelude.{◌≡◌, ℕ, ◌||◌, nat_lt, Bool, true, false, List, Some, None}
+use Rattle.std.specs.Prelude.{◌≡◌, ℕ, ◌≤◌, ◌||◌, nat_lt, Bool, true, false, List, Some, None}
 use Rattle.std.specs.List.{list_any}
 use Rattle.pp_valid.specs.declared.version.Version.{Version}
 use Rattle.pp_world.specs.Log.{Log}
@@ -66,6 +66,8 @@ pub record IsTold (s : State) (e : Exchange) (c : Client) : Type 0 where
   -- its request may have it, and has one that fills a hole only where it is answered
   pub stands : may_have_ask c.stage ≡ true
   pub fills : (v : Version) → filled_of e ≡ Some v → is_waiting c.stage ≡ false
+  -- no more of the body of its request is to be asked than is to be sent (section 4.3)
+  pub left : e.body_left ≤ c.body_left
   -- it asks for what the request names
   pub key : key_in c.front ≡ Some e.key
 
