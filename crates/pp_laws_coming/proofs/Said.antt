@@ -22,7 +22,7 @@ use Rattle.pp_laws_coming.specs.Coming.{IsComing, Waits, is_waiting, may_have_as
 use Rattle.pp_laws_coming.proofs.Alone.{all_told}
 use Rattle.pp_laws_coming.proofs.Asks.{as_it_was, same_bound}
 use Rattle.pp_laws_coming.proofs.Begun.{front_same, whole_in}
-use Rattle.pp_laws_coming.proofs.Clients.{close_client-comes, on_client-comes, on_client_of-comes, on_exchange-comes}
+use Rattle.pp_laws_coming.proofs.Clients.{close_client-comes, on_client-comes, on_exchange-comes}
 use Rattle.pp_laws_coming.proofs.Ended.{end_replies-comes}
 use Rattle.pp_laws_coming.proofs.Facts.{Coming, Early, Facts, IsTold}
 use Rattle.pp_laws_coming.proofs.Stays.{Goes, Stays, but_more, clients_but, goes_as, goes_at, goes_on, passed_in, stays_on}

@@ -18,4 +18,5 @@ pub mod SpokenHappenings
 pub mod Fresh
 pub mod SpokenLaws
 pub mod Passes
+pub mod Senders
 pub mod AllLeft

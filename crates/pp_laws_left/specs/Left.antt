@@ -65,6 +65,21 @@ EndsAreSpoken = (terms : List Term) (s : State) (log : Log) → MayEnd terms s l
 abbrev pub EndsAreToPass : Type 0
 EndsAreToPass = (terms : List Term) (s : State) (log : Log) → MayEnd terms s log → AreToPass (begin_replies (come_to DecidingAgain s))
 
+-- ---- whose body is waited for
+
+-- it is there, did not hang up, and has room for more of it (section 8.2.3)
+pub record IsSender (u : State) (e : Exchange) : Type 0 where
+  pub sender : Client
+  pub there : IsIn sender u.clients
+  pub its : is_for e sender ≡ true
+  pub stays : sender.has_hung_up ≡ false
+  pub room : has_room sender ≡ true
+
+-- the client of each exchange that is somebody's: the field `bodies`, for these
+abbrev pub SendersAreThere : Type 0
+SendersAreThere = (terms : List Term) (s : State) (log : Log) → MayEnd terms s log → (e : Exchange) (n : ℕ) → IsIn e (begin_replies (come_to DecidingAgain s)).exchanges → e.asker ≡ Some n → waits_for_body (begin_replies (come_to DecidingAgain s)) e ≡ true
+    → IsSender (begin_replies (come_to DecidingAgain s)) e
+
 -- ---- all that is left
 
 -- what is said of exchanges
@@ -75,9 +90,8 @@ pub record IsLeftOfAsks (t : State) : Type 0 where
   pub asked : (c : Client) → IsIn c t.clients → is_unanswered c ≡ true → is_trying c.course ≡ true → HasExchange t c
   -- no source: the law has it not, where attempts count anew behind a response that turned out bad within the read that brought its head
   pub amid : (c : Client) (r : Reply) (p : Passed) → IsIn c t.clients → c.stage ≡ Answering r → is_passing r.decision ≡ true → passed_of c ≡ Some p → p.is_short ≡ false → p.pipe.is_finished ≡ false → is_trying c.course ≡ true → HasExchange t c
-  -- no source yet: as much of a body is left to be asked as its client is to send, and what is nobody's is dropped before it waits for one
-  pub bodies : (e : Exchange) → IsIn e (begin_replies t).exchanges → is_some e.place ≡ true → waits_for_body (begin_replies t) e ≡ true
-      → (c : Client) × IsIn c (begin_replies t).clients × (is_for e c ≡ true) × (c.has_hung_up ≡ false) × (has_room c ≡ true)
+  -- no source yet: what is nobody's is dropped before it waits for a body, as followers ask (`drop_unseen`)
+  pub owned : (e : Exchange) → IsIn e (begin_replies t).exchanges → is_some e.place ≡ true → waits_for_body (begin_replies t) e ≡ true → is_some e.asker ≡ true
 
 -- where a turn may end, then, all of what it leaves
 abbrev pub LeftIsLeft : Type 0
