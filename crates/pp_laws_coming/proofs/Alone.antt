@@ -1,5 +1,5 @@
 -- Exchanges that their request leaves, and one that begins, keep it.
-use Rattle.std.proofs.Common.{◌≡◌, ◌⊎◌, refl, ℕ, ◌+◌, ◌<◌, Bool, true, false, not, ◌==◌, ◌||◌, List, [], ◌∷◌, ◌++◌, filter, is_some, Option, Some, None, inl, inr, sym, subst, ap, ◌∙◌, lt_irrefl, arith}
+use Rattle.std.proofs.Common.{◌≡◌, ◌⊎◌, refl, ℕ, ◌+◌, ◌<◌, Bool, true, false, not, ◌==◌, ◌||◌, List, [], ◌∷◌, ◌++◌, filter, is_some, Option, Some, None, inl, inr, sym, subst, ap, ◌∙◌, le_refl, lt_irrefl, arith}
 use Rattle.pp_law.specs.Closing.{is_of, is_over, left_alone}
 use Rattle.pp_law.specs.Lists.{change, is_this}
 use Rattle.pp_law.specs.Stages.{is_headed}
@@ -25,6 +25,7 @@ alone_same e may = record {
   placed = λ is was. was;
   asked = λ was. was;
   key = refl;
+  left = le_refl e.body_left;
   bound = same_bound _ e refl;
   followers = λ counts was nowhere nobody. may counts nowhere;
 }
@@ -36,7 +37,7 @@ left_by : (test : Exchange → Bool) (es : List Exchange) (e : Exchange) → IsI
 left_by test es e i = by (test e)
   where
     by : (t : Bool) → FromAsk es (elim t as (λ x. Exchange) [ true ↦ left_alone e | false ↦ e ])
-    by true = record { was = e; there = i; number = refl; fills = refl; asker = λ n is. absurd (cc is); headed = refl; placed = λ is was. was; asked = λ was. was; key = refl; bound = same_bound _ e refl }
+    by true = record { was = e; there = i; number = refl; fills = refl; asker = λ n is. absurd (cc is); headed = refl; placed = λ is was. was; asked = λ was. was; key = refl; left = le_refl e.body_left; bound = same_bound _ e refl }
     by false = from_same false es e e i (ask_same e)
 
 pub from_left : (test : Exchange → Bool) (es : List Exchange) (e : Exchange) → IsIn e (change test left_alone es) → FromAsk es e

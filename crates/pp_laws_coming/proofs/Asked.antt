@@ -1,5 +1,5 @@
 -- A request that is refused, or for which an origin is asked, keeps it.
-use Rattle.std.proofs.Common.{◌≡◌, refl, ℕ, Bool, true, false, not, ◌==◌, List, filter, Option, Some, None, Result, Ok, Err, sym, subst, ap, ◌∙◌}
+use Rattle.std.proofs.Common.{◌≡◌, refl, ℕ, ◌≤◌, Bool, true, false, not, ◌==◌, List, filter, Option, Some, None, Result, Ok, Err, sym, subst, ap, ◌∙◌, le_refl, zero-le}
 use Rattle.pp_ask.specs.declared.kind.AskKind.{AskKind}
 use Rattle.pp_head.specs.Request.{Request}
 use Rattle.pp_target.specs.Key.{Key, text_of}
@@ -11,8 +11,9 @@ use Rattle.pp_law.specs.Deciding.{add_exchange, ask_as, ask_for, ask_origin, ask
 use Rattle.pp_law.specs.Decisions.{kind_of}
 use Rattle.pp_law.specs.Lists.{change, is_some_with, is_this}
 use Rattle.pp_law.specs.Requests.{Front, Parsed, NoHeadYet, NoHead, IsRequest, key_in}
-use Rattle.pp_law.specs.Stages.{is_headed}
-use Rattle.pp_law.specs.State.{State, Client, Exchange, Instance, Stage, Waiting, Passing}
+use Rattle.pp_valid.specs.declared.version.Version.{Version}
+use Rattle.pp_law.specs.Stages.{filled_of, is_headed}
+use Rattle.pp_law.specs.State.{State, Aim, Through, Own, Filling, Client, Exchange, Instance, Stage, Waiting, Passing}
 use Rattle.pp_law.specs.Table.{row_for}
 use Rattle.pp_laws.specs.Runs.{IsIn}
 use Rattle.pp_laws.proofs.Lists.{Changed, in_change, in_filter, other, same}
@@ -21,7 +22,7 @@ use Rattle.pp_laws.proofs.Tests.{number_same, same_number}
 use Rattle.pp_laws_turn.proofs.Cases.{each_of}
 use Rattle.pp_laws_turn.proofs.Rows.{swept-keeps}
 use Rattle.pp_laws_turn.proofs.View.{Holds, facts_of, holds}
-use Rattle.pp_laws_coming.specs.Coming.{is_waiting}
+use Rattle.pp_laws_coming.specs.Coming.{is_waiting, may_have_ask}
 use Rattle.pp_laws_coming.proofs.Alone.{NoneIsOf, all_count, leave_come, none_is_of, push_come}
 use Rattle.pp_laws_coming.proofs.Facts.{Coming, IsTold, Settled, rows}
 use Rattle.pp_laws_coming.proofs.Stays.{client_but, unsourced}
@@ -39,7 +40,7 @@ leaves-comes n f s number settled h =
 
 pub refuse-comes : {late : Bool} → (c : Client) (status : ℕ) (s : State) → Holds (Coming late) s → Holds (Coming late) (refuse c status s)
 unfolding refuse
-refuse-comes c status s h = swept-keeps rows _ (leaves-comes c.number (refused_with status) s (λ d. refl) (λ d i is. unsourced s.instances s.next_instance (refused_with status d) refl) h)
+refuse-comes c status s h = swept-keeps rows _ (leaves-comes c.number (refused_with status) s (λ d. refl) (λ d i is. unsourced s.instances s.next_instance (refused_with status d) refl (λ off. refl)) h)
 
 -- it is for that client, of whose other exchanges none is left
 pub begin_exchange-comes : {late : Bool} → (e : Exchange) (n : ℕ) (s : State) → e.number ≡ s.next_exchange → e.place ≡ None → e.asked ≡ 0 → is_headed e ≡ false → e.asker ≡ Some n → ((c : Client) → IsIn c s.clients → c.number ≡ n → IsTold s.instances e c) → Holds (Coming late) s
@@ -68,18 +69,30 @@ pass_waits : (pass : Bool) → is_waiting (elim pass as (λ t. Stage) [ true ↦
 pass_waits true = refl
 pass_waits false = refl
 
+pass_stands : (pass : Bool) → may_have_ask (elim pass as (λ t. Stage) [ true ↦ Passing | false ↦ Waiting ]) ≡ true
+pass_stands true = refl
+pass_stands false = refl
+
+-- it fills no hole
+pass_fills : (pass : Bool) → (elim (elim pass as (λ t. Aim) [ true ↦ Through | false ↦ Own ]) as (λ t. Option Version) [ Through ↦ None | Own ↦ None | Filling v from to ↦ Some v ]) ≡ None
+pass_fills true = refl
+pass_fills false = refl
+
 pass_sourced : (pass : Bool) → source_in (elim pass as (λ t. Stage) [ true ↦ Passing | false ↦ Waiting ]) ≡ None
 pass_sourced true = refl
 pass_sourced false = refl
 
 asking_settled : (xs : List Instance) (next_row : ℕ) (d : Decision) (c : Client) → Settled xs next_row (asking_with d c)
-asking_settled xs next_row d c = unsourced xs next_row (asking_with d c) (pass_sourced (is_pass d))
+asking_settled xs next_row d c = unsourced xs next_row (asking_with d c) (pass_sourced (is_pass d)) (λ off. refl)
 
-asking_told : (xs : List Instance) (e : Exchange) (d : Decision) (c : Client) → key_in c.front ≡ Some e.key → IsTold xs e (asking_with d c)
-asking_told xs e d c key = record {
+asking_told : (xs : List Instance) (e : Exchange) (d : Decision) (c : Client) → filled_of e ≡ None → e.body_left ≤ c.body_left → key_in c.front ≡ Some e.key → IsTold xs e (asking_with d c)
+asking_told xs e d c none left key = record {
+  left = left;
   waits = λ fills off. record { stage = pass_waits (is_pass d); brought = refl };
   untold = λ off. refl;
   coming = refl;
+  stands = pass_stands (is_pass d);
+  fills = λ v is. let both : None ≡ Some v = sym none ∙ is in absurd (cc both);
   key = key;
   bound = λ fills x i follows. (let both : None ≡ Some x.id = sym (pass_sourced (is_pass d)) ∙ follows.source in absurd (cc both));
 }
@@ -91,11 +104,15 @@ ask_for-comes c d head key kind s keyed there h =
     (begin_exchange-comes (new_exchange s c head key d kind) c.number _ refl refl refl refl refl (λ x i is. told x is (in_change (is_client c.number) (asking_with d) x s.clients i))
     (leaves-comes c.number (asking_with d) s (λ x. refl) (λ x i is. asking_settled s.instances s.next_instance d x) h))
   where
+    pass_left : (pass : Bool) {y : Client} → y ≡ c → (elim pass as (λ x. ℕ) [ true ↦ c.body_left | false ↦ 0 ]) ≤ y.body_left
+    pass_left true eq = subst (λ (z : Client). c.body_left ≤ z.body_left) (sym eq) (le_refl c.body_left)
+    pass_left false eq = zero-le
+
     told : (x : Client) → x.number ≡ c.number → Changed (is_client c.number) (asking_with d) s.clients x → IsTold s.instances (new_exchange s c head key d kind) x
     told x is (same j isnt) = let both : true ≡ false = sym (number_same c.number) ∙ ap (λ (n : ℕ). n == c.number) (sym is) ∙ isnt in absurd (cc both)
     told x is (other y j hit eq) =
         let one : y ≡ c = (facts_of h).callers y c j there (same_number y.number c.number hit) in
-        subst (λ (z : Client). IsTold s.instances (new_exchange s c head key d kind) z) (sym eq) (asking_told s.instances (new_exchange s c head key d kind) d y (ap (λ (z : Client). key_in z.front) one ∙ keyed))
+        subst (λ (z : Client). IsTold s.instances (new_exchange s c head key d kind) z) (sym eq) (asking_told s.instances (new_exchange s c head key d kind) d y (pass_fills (is_pass d)) (pass_left (is_pass d) one) (ap (λ (z : Client). key_in z.front) one ∙ keyed))
 
 ask_as-comes : {late : Bool} → (c : Client) (d : Decision) (head : Request) (key : Key) (s : State) → key_in c.front ≡ Some key → IsIn c s.clients → Holds (Coming late) s → Holds (Coming late) (ask_as c d head key s)
 unfolding ask_as

@@ -1,5 +1,5 @@
 -- Which changes of exchanges keep it.
-use Rattle.std.proofs.Common.{◌≡◌, refl, ℕ, ◌<◌, Bool, true, false, List, map, filter, Option, Some, None, inl, inr, sym, subst, ap, ◌∙◌}
+use Rattle.std.proofs.Common.{◌≡◌, refl, ℕ, ◌<◌, Bool, true, false, List, map, filter, Option, Some, None, ◌≤◌, inl, inr, sym, subst, ap, ◌∙◌, le_refl, le_trans}
 use Rattle.pp_law.specs.Stages.{bound_of, filled_of, is_headed}
 use Rattle.pp_law.specs.State.{Bound, Client, Exchange, Instance}
 use Rattle.pp_laws.specs.Runs.{IsIn}
@@ -26,6 +26,7 @@ pub record FromAsk (es : List Exchange) (e : Exchange) : Type 0 where
   pub placed : is_headed was ≡ true → (was.place ≡ None → ⊥) → e.place ≡ None → ⊥
   pub asked : (was.place ≡ None → was.asked ≡ 0) → e.place ≡ None → e.asked ≡ 0
   pub key : e.key ≡ was.key
+  pub left : e.body_left ≤ was.body_left
   pub bound : BoundOn e was
 
 told_from : (xs : List Instance) (es : List Exchange) (e : Exchange) (c : Client) → (r : FromAsk es e) → IsTold xs r.was c → IsTold xs e c
@@ -33,6 +34,9 @@ told_from xs es e c r told = record {
   waits = λ fills off. told.waits (sym r.fills ∙ fills) (sym r.headed ∙ off);
   untold = λ off. told.untold (sym r.headed ∙ off);
   coming = told.coming;
+  stands = told.stands;
+  fills = λ v is. told.fills v (sym r.fills ∙ is);
+  left = le_trans r.left told.left;
   key = told.key ∙ ap (λ k. Some k) (sym r.key);
   bound = λ fills x i follows. (
       let b = told.bound (sym r.fills ∙ fills) x i follows in
@@ -63,15 +67,16 @@ pub record SameAsk (late : Bool) (d e : Exchange) : Type 0 where
   pub placed : is_headed e ≡ true → (e.place ≡ None → ⊥) → d.place ≡ None → ⊥
   pub asked : (e.place ≡ None → e.asked ≡ 0) → d.place ≡ None → d.asked ≡ 0
   pub key : d.key ≡ e.key
+  pub left : d.body_left ≤ e.body_left
   pub bound : BoundOn d e
   pub followers : Counts late e → (e.place ≡ None → e.asker ≡ None → ⊥) → d.place ≡ None → d.asker ≡ None → ⊥
 
 pub ask_same : {late : Bool} (e : Exchange) → SameAsk late e e
-ask_same e = record { number = refl; fills = refl; asker = λ n is. is; headed = refl; placed = λ is was. was; asked = λ was. was; key = refl; bound = same_bound e e refl; followers = λ counts was. was }
+ask_same e = record { number = refl; fills = refl; asker = λ n is. is; headed = refl; placed = λ is was. was; asked = λ was. was; key = refl; left = le_refl e.body_left; bound = same_bound e e refl; followers = λ counts was. was }
 
 -- where it is what it was but for what is asked of it, and for how far its body is
-pub as_it_was : {late : Bool} (d e : Exchange) → d.number ≡ e.number → filled_of d ≡ filled_of e → d.asker ≡ e.asker → is_headed d ≡ is_headed e → d.place ≡ e.place → d.key ≡ e.key → BoundOn d e → ((e.place ≡ None → e.asked ≡ 0) → e.place ≡ None → d.asked ≡ 0) → SameAsk late d e
-as_it_was d e number fills asker headed place key bound asked = record {
+pub as_it_was : {late : Bool} (d e : Exchange) → d.number ≡ e.number → filled_of d ≡ filled_of e → d.asker ≡ e.asker → is_headed d ≡ is_headed e → d.place ≡ e.place → d.key ≡ e.key → d.body_left ≤ e.body_left → BoundOn d e → ((e.place ≡ None → e.asked ≡ 0) → e.place ≡ None → d.asked ≡ 0) → SameAsk late d e
+as_it_was d e number fills asker headed place key left bound asked = record {
   number = number;
   fills = fills;
   asker = λ n is. sym asker ∙ is;
@@ -79,6 +84,7 @@ as_it_was d e number fills asker headed place key bound asked = record {
   placed = λ is was none. was (sym place ∙ none);
   asked = λ was none. asked was (sym place ∙ none);
   key = key;
+  left = left;
   bound = bound;
   followers = λ counts was nowhere nobody. was (sym place ∙ nowhere) (sym asker ∙ nobody);
 }
@@ -94,7 +100,7 @@ apart_mapped f es number apart d e i j eq =
     p.is ∙ ap f (apart p.was r.was p.there r.there (sym (number p.was p.there) ∙ ap (λ (x : Exchange). x.number) (sym p.is) ∙ eq ∙ ap (λ (x : Exchange). x.number) r.is ∙ number r.was r.there)) ∙ sym r.is
 
 pub from_same : (late : Bool) (es : List Exchange) (e d : Exchange) → IsIn e es → SameAsk late d e → FromAsk es d
-from_same late es e d i kept = record { was = e; there = i; number = kept.number; fills = kept.fills; asker = kept.asker; headed = kept.headed; placed = kept.placed; asked = kept.asked; key = kept.key; bound = kept.bound }
+from_same late es e d i kept = record { was = e; there = i; number = kept.number; fills = kept.fills; asker = kept.asker; headed = kept.headed; placed = kept.placed; asked = kept.asked; key = kept.key; left = kept.left; bound = kept.bound }
 
 pub counts_on : (late : Bool) (d e : Exchange) → filled_of d ≡ filled_of e → Counts late d → Counts late e
 counts_on late d e fills (inl is) = inl is

@@ -39,7 +39,7 @@ without_row_goes c = by (is_begun c || c.has_given_up)
   where
     by : (t : Bool) → Goes (elim t as (λ d. Client) [ true ↦ c | false ↦ record c { course = anew c.course; has_given_up = true } ]) c
     by true = goes_on c
-    by false = goes_as _ c refl refl refl refl
+    by false = goes_as _ c refl refl refl refl refl
 
 give_up_row-comes : {late : Bool} → (e : Exchange) (s : State) → MayBeLeft late e s.exchanges → Holds (Coming late) s → Holds (Coming late) (give_up_row e s)
 unfolding give_up_row clear swept on_client_of
@@ -50,7 +50,7 @@ give_up_row-comes e s may h =
 
 charge-comes : {late : Bool} → (cost : Course → Course) (e : Exchange) (s : State) → MayBeLeft late e s.exchanges → Holds (Coming late) s → Holds (Coming late) (charge cost e s)
 unfolding charge on_client_of
-charge-comes cost e s may h = give_up_row-comes e _ may (on_client_of-comes e (λ c. record c { course = cost c.course }) s (λ c. goes_as _ c refl refl refl refl) h)
+charge-comes cost e s may h = give_up_row-comes e _ may (on_client_of-comes e (λ c. record c { course = cost c.course }) s (λ c. goes_as _ c refl refl refl refl refl) h)
 
 pub lose_attempt-comes : {late : Bool} → (e : Exchange) (s : State) → MayBeLeft late e s.exchanges → Holds (Coming late) s → Holds (Coming late) (lose_attempt e s)
 unfolding lose_attempt

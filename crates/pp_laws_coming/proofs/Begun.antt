@@ -1,5 +1,5 @@
 -- Replies that begin keep it.
-use Rattle.std.proofs.Common.{◌≡◌, refl, ℕ, Bool, true, false, not, ◌&&◌, ◌||◌, List, [], ◌∷◌, map, Option, Some, None, inl, inr, sym, subst, ap, ◌∙◌}
+use Rattle.std.proofs.Common.{◌≡◌, refl, ℕ, ◌≤◌, Bool, true, false, not, ◌&&◌, ◌||◌, List, [], ◌∷◌, map, Option, Some, None, inl, inr, sym, subst, ap, ◌∙◌, le_refl}
 use Rattle.std.specs.List.{list_any}
 use Rattle.pp_target.specs.Key.{Key}
 use Rattle.pp_world.specs.declared.note.Decision.TheVariants.{Pass}
@@ -17,7 +17,7 @@ use Rattle.pp_laws.proofs.Tests.{first_holds, same_number, second_holds}
 use Rattle.pp_laws_turn.proofs.Rows.{swept-keeps}
 use Rattle.pp_laws_turn.proofs.Same.{begun_at_end-same}
 use Rattle.pp_laws_turn.proofs.View.{Holds, SameClient, facts_of}
-use Rattle.pp_laws_coming.specs.Coming.{Waits, is_waiting}
+use Rattle.pp_laws_coming.specs.Coming.{Waits, is_waiting, may_have_ask}
 use Rattle.pp_laws_coming.proofs.Alone.{MayLeave}
 use Rattle.pp_laws_coming.proofs.Asks.{early_fills}
 use Rattle.pp_laws_coming.proofs.Clients.{all_clients-comes, forsake-comes}
@@ -57,22 +57,25 @@ still_begun s c w = by c.is_closing
 record Keeps (d c : Client) : Type 0 where
   number : d.number ≡ c.number
   brought : d.brought ≡ c.brought
+  stands : may_have_ask c.stage ≡ true → may_have_ask d.stage ≡ true
+  answers : is_waiting c.stage ≡ false → is_waiting d.stage ≡ false
+  left : d.body_left ≡ c.body_left
 
 keeps_it : (c : Client) → Keeps c c
-keeps_it c = record { number = refl; brought = refl }
+keeps_it c = record { number = refl; brought = refl; stands = λ is. is; answers = λ off. off; left = refl }
 
 passed_keeps : (s : State) (r : Parsed) (d : Decision) (c : Client) → Keeps (begun_passed s r d c) c
 passed_keeps s r d c = by (passed_of c)
   where
     by : (o : Option Passed) → Keeps (elim o as (λ x. Client) [ None ↦ c | Some p ↦ record c { stage = Answering (passed_reply s r p d); closes = not (keeps_open r && is_end_known p.rule r.head.minor) } ]) c
     by None = keeps_it c
-    by (Some p) = record { number = refl; brought = refl }
+    by (Some p) = record { number = refl; brought = refl; stands = λ is. refl; answers = λ off. refl; left = refl }
 
 instance_keeps : (s : State) (r : Parsed) (reply : Reply) (c : Client) → Keeps (begun_instance s r reply c) c
 instance_keeps s r reply c = by (source_of s reply)
   where
     at : (x : Instance) (b : Bool) → Keeps (elim b as (λ y. Client) [ true ↦ record c { stage = Answering (begun_reply s r c reply x) } | false ↦ c ]) c
-    at x true = record { number = refl; brought = refl }
+    at x true = record { number = refl; brought = refl; stands = λ is. refl; answers = λ off. refl; left = refl }
     at x false = keeps_it c
 
     by : (o : Option Instance) → Keeps (elim o as (λ y. Client) [ None ↦ c | Some x ↦ elim (may_begin s reply x) as (λ y. Client) [ true ↦ record c { stage = Answering (begun_reply s r c reply x) } | false ↦ c ] ]) c
@@ -123,9 +126,11 @@ front_same d c kept key is = by c.front refl
 
 begun_goes : (s : State) (c : Client) → Goes (begun_at_end s c) c
 begun_goes s c = record {
-  stays = record { number = (begun_keeps s c).number; source = (begun_at_end-same s c).source; front = front_same _ c (begun_at_end-same s c); untold = λ none. ap passed_in (begun_keeps s c).brought ∙ none };
+  stays = record { stands = λ is. (begun_keeps s c).stands is; number = (begun_keeps s c).number; source = (begun_at_end-same s c).source; front = front_same _ c (begun_at_end-same s c); untold = λ none. ap passed_in (begun_keeps s c).brought ∙ none };
   waits = λ w. subst (λ (x : Client). Waits x) (sym (still_begun s c w)) w;
   coming = λ is. ap whole_in (begun_keeps s c).brought ∙ is;
+  answers = λ off. (begun_keeps s c).answers off;
+  left = λ key is. subst (λ n. c.body_left ≤ n) (sym (begun_keeps s c).left) (le_refl c.body_left);
 }
 
 any_in : (p : Client → Bool) (cs : List Client) → list_any p cs ≡ true → (c : Client) × IsIn c cs × (p c ≡ true)

@@ -1,5 +1,5 @@
 -- The bytes of a body that came keep it.
-use Rattle.std.proofs.Common.{◌≡◌, refl, ℕ, ◌+◌, Bool, true, false, not, drop, length, [], ◌++◌, Option, Some, None, sym, ap, ◌∙◌}
+use Rattle.std.proofs.Common.{◌≡◌, refl, ℕ, ◌+◌, Bool, true, false, not, drop, length, [], ◌++◌, Option, Some, None, sym, ap, ◌∙◌, le_refl}
 use Rattle.pp_framing.specs.Body.{Outcome, Done as IsDone, Going, Bad}
 use Rattle.pp_framing.specs.Rules.{body_of}
 use Rattle.pp_pass.specs.Pipe.{Pipe, with_data}
@@ -42,7 +42,7 @@ moved_ask m e = by e.body refl
     by Pending is = ask_same e
     by Relaying is = ask_same e
     by Dropping is = ask_same e
-    by (Joining b) is = as_it_was _ e refl refl refl (sym (ap (λ (x : Body). not (is_pending x)) is)) refl refl (λ to at. record { to = record b { next = b.next + m }; is = refl; instance = (let both : Some b ≡ Some to = sym (ap bound_in is) ∙ at in let one : b ≡ to = cc both in ap (λ (y : Bound). y.instance) one) }) (λ was. was)
+    by (Joining b) is = as_it_was _ e refl refl refl (sym (ap (λ (x : Body). not (is_pending x)) is)) refl refl (le_refl e.body_left) (λ to at. record { to = record b { next = b.next + m }; is = refl; instance = (let both : Some b ≡ Some to = sym (ap bound_in is) ∙ at in let one : b ≡ to = cc both in ap (λ (y : Bound). y.instance) one) }) (λ was. was)
 
 moved_asked : (m : ℕ) (e : Exchange) → SameAsked (moved_on m e) e
 moved_asked m e = by (bound_of e)

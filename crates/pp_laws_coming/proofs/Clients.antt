@@ -85,4 +85,4 @@ pub close_client-comes : {late : Bool} → (n : ℕ) (is_cut : Bool) (s : State)
 unfolding close_client
 close_client-comes n is_cut s h =
     swept-keeps rows _
-    (each_exchange-comes leave_one leave_one-comes (exchanges_of n s) _ (on_client-comes n (λ c. record c { is_closing = true; is_cut = c.is_cut || is_cut }) s (λ c. refl) (λ c i hit. goes_as _ c refl refl refl refl) h))
+    (each_exchange-comes leave_one leave_one-comes (exchanges_of n s) _ (on_client-comes n (λ c. record c { is_closing = true; is_cut = c.is_cut || is_cut }) s (λ c. refl) (λ c i hit. goes_as _ c refl refl refl refl refl) h))

@@ -35,7 +35,7 @@ unfolding forsake on_client
 next-comes c s there said h =
     holds
     (all_count c.number (change (is_client c.number) next_request s.clients) (change (is_of c.number) left_alone s.exchanges) s.next_exchange s.instances s.next_instance (none_is_of c.number s.exchanges)
-    (left_come (Some c.number) (is_of c.number) (change (is_client c.number) next_request s.clients) s.exchanges s.next_exchange s.instances s.next_instance may (client_but c.number next_request s.clients s.exchanges s.next_exchange s.instances s.next_instance (λ d. refl) (λ d i is. unsourced s.instances s.next_instance (next_request d) refl) (facts_of h))))
+    (left_come (Some c.number) (is_of c.number) (change (is_client c.number) next_request s.clients) s.exchanges s.next_exchange s.instances s.next_instance may (client_but c.number next_request s.clients s.exchanges s.next_exchange s.instances s.next_instance (λ d. refl) (λ d i is. unsourced s.instances s.next_instance (next_request d) refl (λ off. refl)) (facts_of h))))
   where
     is_its : (n : ℕ) (o : Option ℕ) → is_this n o ≡ true → o ≡ Some n
     is_its n None is = absurd (cc is)
@@ -71,5 +71,5 @@ unfolding regained
 regained-comes s h = all_clients-comes (regained_by s) s (λ c. by c (is_some_with (is_next_held s) (next_of s c))) h
   where
     by : (c : Client) (held : Bool) → Goes (elim held as (λ y. Client) [ true ↦ record c { course = anew c.course } | false ↦ c ]) c
-    by c true = goes_as _ c refl refl refl refl
+    by c true = goes_as _ c refl refl refl refl refl
     by c false = goes_on c

@@ -62,7 +62,7 @@ opened-comes n s above was turn h = holds (record {
 
     settled_by : (c : Client) → IsIn c s.clients ⊎ (c ≡ new) → Settled s.instances s.next_instance c
     settled_by c (inl i) = f.settled c i
-    settled_by c (inr eq) = subst (λ (x : Client). Settled s.instances s.next_instance x) (sym eq) (unsourced s.instances s.next_instance new refl)
+    settled_by c (inr eq) = subst (λ (x : Client). Settled s.instances s.next_instance x) (sym eq) (unsourced s.instances s.next_instance new refl (λ off. refl))
 
     lower : (c : Client) → IsIn c s.clients → c.number ≡ n → ⊥
     lower c i is = let le : c.number ≤ s.top = (sound_facts was).callers.given c i in omega arith

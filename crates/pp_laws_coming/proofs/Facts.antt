@@ -1,12 +1,13 @@
 -- What is kept of clients, of exchanges and of rows.
 use Rattle.std.proofs.Common.{◌≡◌, ◌⊎◌, refl, ℕ, ◌<◌, ◌≤◌, Bool, true, false, List, Option, Some, None, inl, inr, sym, subst, ap, ◌∙◌, lt_irrefl, arith}
+use Rattle.pp_valid.specs.declared.version.Version.{Version}
 use Rattle.pp_law.specs.Requests.{key_in}
 use Rattle.pp_law.specs.Stages.{bound_of, filled_of, is_headed, passed_of}
 use Rattle.pp_law.specs.State.{Bound, Client, Exchange, Instance}
 use Rattle.pp_laws.specs.Runs.{IsIn}
 use Rattle.pp_laws.proofs.Sound.{source_in}
 use Rattle.pp_laws_turn.proofs.View.{FromRow, KeepsRows, RowsFrom, View}
-use Rattle.pp_laws_coming.specs.Coming.{IsComing, Waits}
+use Rattle.pp_laws_coming.specs.Coming.{IsComing, Waits, is_waiting, may_have_ask}
 
 -- ---- what holds
 
@@ -26,13 +27,17 @@ pub record IsTold (xs : List Instance) (e : Exchange) (c : Client) : Type 0 wher
   pub waits : filled_of e ≡ None → is_headed e ≡ false → Waits c
   pub untold : is_headed e ≡ false → passed_of c ≡ None
   pub coming : IsComing c
+  pub stands : may_have_ask c.stage ≡ true
+  pub fills : (v : Version) → filled_of e ≡ Some v → is_waiting c.stage ≡ false
+  pub left : e.body_left ≤ c.body_left
   pub key : key_in c.front ≡ Some e.key
   pub bound : filled_of e ≡ None → (x : Instance) → IsIn x xs → Follows x c → IsBoundTo x.id e
 
--- of a client: who is answered from an instance that stands is passed nothing
+-- of a client: who is answered from an instance that stands is passed nothing, nor is who may have no exchange
 pub record Settled (xs : List Instance) (next_row : ℕ) (c : Client) : Type 0 where
   pub given : (id : ℕ) → source_in c.stage ≡ Some id → id < next_row
   pub bare : (x : Instance) → IsIn x xs → Follows x c → passed_of c ≡ None
+  pub unasked : may_have_ask c.stage ≡ false → passed_of c ≡ None
 
 -- numbers are distinct
 abbrev pub AreApart : List Exchange → Type 0
@@ -103,11 +108,15 @@ rows {late} xs next v from h = record {
   settled = λ c i. record {
     given = λ id is. (let lt : id < v.next_instance = (h.settled c i).given id is in let le : v.next_instance ≤ next = from.grows in omega arith);
     bare = λ x j follows. (let w = was_followed v xs next from x c j (h.settled c i).given follows in (h.settled c i).bare w.was w.there w.follows);
+    unasked = (h.settled c i).unasked;
   };
   told = λ e n c i j asks is off. let told = h.told e n c i j asks is off in record {
     waits = told.waits;
     untold = told.untold;
     coming = told.coming;
+    stands = told.stands;
+    fills = told.fills;
+    left = told.left;
     key = told.key;
     bound = λ fills x k follows. (
         let w = was_followed v xs next from x c k (h.settled c j).given follows in

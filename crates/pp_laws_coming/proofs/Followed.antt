@@ -1,5 +1,6 @@
 -- A reply by a row, or by what is passed, keeps it, and so does each decision.
-use Rattle.std.proofs.Common.{◌≡◌, refl, ℕ, ◌<◌, Bool, true, false, not, ◌==◌, ◌&&◌, bytes_eq, max, min, nat_le, nat_lt, List, filter, Option, Some, None, sym, subst, ap, ◌∙◌}
+use Rattle.std.proofs.Common.{◌≡◌, refl, ℕ, ◌<◌, Bool, true, false, not, ◌==◌, ◌&&◌, ◌||◌, bytes_eq, max, min, nat_le, nat_lt, List, filter, Option, Some, None, sym, subst, ap, ◌∙◌, le_refl, arith}
+use Rattle.std.proofs.lemmas.Bool.Decides.{nat_tests}
 use Rattle.pp_plan.specs.Need.{is_near}
 use Rattle.pp_target.specs.Key.{text_of}
 use Rattle.pp_valid.specs.declared.version.Version.{Version}
@@ -10,7 +11,7 @@ use Rattle.pp_law.specs.Connections.{is_client, on_client}
 use Rattle.pp_law.specs.Deciding.{answering_with, decided, decided_by, enter_row, follow, follow_row, follow_with, relay, reply_by, serves}
 use Rattle.pp_law.specs.Lists.{Bytes, change, is_this}
 use Rattle.pp_law.specs.Requests.{key_in}
-use Rattle.pp_law.specs.Stages.{bound_in, bound_of, filled_of, is_headed, is_pending, passed_of}
+use Rattle.pp_law.specs.Stages.{bound_in, bound_of, filled_of, is_headed, is_passing, is_pending, passed_of}
 use Rattle.pp_law.specs.State.{State, Aim, Through, Own, Filling, Awaited, Body, Pending, Joining, Relaying, Dropping, Bound, Client, Exchange, Instance, Reply}
 use Rattle.pp_law.specs.Table.{asks_for, is_row_of, is_soon, row}
 use Rattle.pp_laws.specs.Runs.{IsIn}
@@ -26,6 +27,9 @@ use Rattle.pp_laws_coming.proofs.Asked.{ask_origin-comes, refuse-comes}
 use Rattle.pp_laws_coming.proofs.Clients.{on_client-comes}
 use Rattle.pp_laws_coming.proofs.Facts.{Coming, IsBoundTo, IsTold, Settled, rows}
 use Rattle.pp_laws_coming.proofs.Stays.{client_but}
+
+pub some_to : (a b : ℕ) → nat_lt a b ≡ true → nat_lt 0 b ≡ true
+some_to a b is = grind (arith, nat_tests)
 
 -- what serves a follower, and fills no hole, is headed
 and_false : (b : Bool) → (b && false) ≡ false
@@ -96,12 +100,17 @@ follow_with-comes c r x s source row_there nothing h =
     served true false off is = absurd (cc off)
     served false b off is = absurd (cc is)
 
+    lasts : (a b d : Bool) → d ≡ true → (a || b || d) ≡ true
+    lasts true b d is = refl
+    lasts false true d is = refl
+    lasts false false d is = is
+
     -- it follows that row
     its_row : (id : ℕ) → r.source ≡ Some id → x.id ≡ id
     its_row id is = let both : Some x.id ≡ Some id = sym source ∙ is in cc both
 
     settled : (d : Client) → IsIn d s.clients → d.number ≡ c.number → Settled s.instances s.next_instance (answering_with r d)
-    settled d i is = record { given = λ id at. subst (λ n. n < s.next_instance) (its_row id at) ((facts_of h).rowed x row_there); bare = λ y j follows. nothing d i is }
+    settled d i is = record { given = λ id at. subst (λ n. n < s.next_instance) (its_row id at) ((facts_of h).rowed x row_there); bare = λ y j follows. nothing d i is; unasked = λ off. nothing d i is }
 
     told : (e : Exchange) (d : Client) → Changed test left_alone s.exchanges e → e.asker ≡ Some c.number → d.number ≡ c.number → Changed (is_client c.number) (answering_with r) s.clients d → IsTold s.instances e d
     told e d at asks is (same j isnt) = let both : true ≡ false = sym (number_same c.number) ∙ ap (λ (n : ℕ). n == c.number) (sym is) ∙ isnt in absurd (cc both)
@@ -113,6 +122,9 @@ follow_with-comes c r x s source row_there nothing h =
           waits = λ fills off. (let both : true ≡ false = sym (serves_bound x r e serving fills).0 ∙ off in absurd (cc both));
           untold = before.untold;
           coming = before.coming;
+          stands = lasts r.has_begun (is_passing r.decision) (nat_lt 0 r.to) (some_to r.at r.to (first_holds (nat_lt r.at r.to) _ serving));
+          fills = λ v is. refl;
+          left = before.left;
           key = before.key;
           bound = λ fills y k follows. subst (λ n. IsBoundTo n e) (its_row y.id follows.source) (serves_bound x r e serving fills).1;
         })
@@ -134,9 +146,11 @@ unfolding relay
 relay-comes c s brought h =
     swept-keeps rows _
     (on_client-comes c.number (answering_with (reply_by Relay None)) s (λ d. refl) (λ d i hit. record {
-      stays = record { number = refl; source = λ id is. absurd (cc is); front = λ key is. is; untold = λ none. none };
+      stays = record { number = refl; source = λ id is. absurd (cc is); front = λ key is. is; untold = λ none. none; stands = λ is. refl };
       waits = λ w. absurd (brought d i (same_number d.number c.number hit) w.brought);
       coming = λ is. is;
+      answers = λ off. refl;
+      left = λ key is. le_refl d.body_left;
     }) h)
 
 -- what it rests on: the client is there, and was brought what the decision is by

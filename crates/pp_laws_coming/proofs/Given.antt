@@ -1,5 +1,5 @@
 -- An ask that is given up and over, and what counts before asks are given up and behind that.
-use Rattle.std.proofs.Common.{◌≡◌, refl, ℕ, Bool, true, false, not, ◌&&◌, ◌||◌, List, [], ◌∷◌, filter, is_some, Option, Some, None, inl, inr, sym, ap, ◌∙◌}
+use Rattle.std.proofs.Common.{◌≡◌, refl, ℕ, Bool, true, false, not, ◌&&◌, ◌||◌, List, [], ◌∷◌, filter, is_some, Option, Some, None, inl, inr, sym, ap, ◌∙◌, le_refl}
 use Rattle.std.specs.List.{list_any}
 use Rattle.pp_valid.specs.declared.version.Version.{Version}
 use Rattle.pp_law.specs.Closing.{left_alone}
@@ -98,7 +98,7 @@ give_up-late s h =
     here e i = (in_filter (λ x. not (is_useless_ask s x)) e s.exchanges i).0
 
     from : (e : Exchange) → IsIn e (filter (λ x. not (is_useless_ask s x)) s.exchanges) → FromAsk s.exchanges e
-    from e i = record { was = e; there = here e i; number = refl; fills = refl; asker = λ n is. is; headed = refl; placed = λ is was. was; asked = λ was. was; key = refl; bound = λ to is. record { to = to; is = is; instance = refl } }
+    from e i = record { was = e; there = here e i; number = refl; fills = refl; asker = λ n is. is; headed = refl; placed = λ is was. was; asked = λ was. was; key = refl; left = le_refl e.body_left; bound = λ to is. record { to = to; is = is; instance = refl } }
 
     followers : AreFollowers true (filter (λ x. not (is_useless_ask s x)) s.exchanges)
     followers e i counts nowhere nobody = by (filled_of e) refl

@@ -67,9 +67,9 @@ without_shared_goes most c = by (c.has_given_up && not (is_begun c)) (is_begun c
   where
     by : (again begun : Bool)
         → Goes (elim again as (λ x. Client) [ true ↦ record c { course = lost_one most c.course } | false ↦ elim begun as (λ x. Client) [ true ↦ c | false ↦ record c { course = anew c.course; has_given_up = true } ] ]) c
-    by true begun = goes_as _ c refl refl refl refl
+    by true begun = goes_as _ c refl refl refl refl refl
     by false true = goes_on c
-    by false false = goes_as _ c refl refl refl refl
+    by false false = goes_as _ c refl refl refl refl refl
 
 not_shared-comes : (e : Exchange) (s : State) → Holds (Ready e) s → Holds (Done e) (not_shared e s)
 unfolding not_shared

@@ -75,7 +75,7 @@ passed_stays f c = by (passed_of c) refl
   where
     by : (o : Option Passed) → passed_of c ≡ o → Stays (elim o as (λ x. Client) [ None ↦ c | Some p ↦ record c { brought = Passes (f p) } ]) c
     by None is = stays_on c
-    by (Some p) is = record { number = refl; source = λ id at. at; front = λ key at. at; untold = λ none. (let both : Some p ≡ None = sym is ∙ none in absurd (cc both)) }
+    by (Some p) is = record { number = refl; source = λ id at. at; front = λ key at. at; untold = λ none. (let both : Some p ≡ None = sym is ∙ none in absurd (cc both)); stands = λ on. on }
 
 pub poured-comes : {late : Bool} → (e : Exchange) (s : State) → Holds (Coming late) s → Holds (ComingBut late e.asker) (pour e finished s)
 unfolding pour on_client_of

@@ -69,6 +69,7 @@ pub told_at : (s : State) → Holds AtPhase s → IsToldOn s
 told_at s h = record {
   told = λ e n c i asks found. of_client e n c (told e n c i asks found);
   bare = λ c x i j by_row. (f.settled c i).bare x j (follows_it c x by_row);
+  unasked = λ c i. (f.settled c i).unasked;
   headed = f.headed;
   placeless = λ e i nowhere nobody. by e i nowhere nobody (filled_of e) refl;
   going = λ late. none_over s.exchanges (λ e i. f.placeless e i (inl (late_so s.phase late)));
@@ -85,6 +86,9 @@ told_at s h = record {
       untold = t.untold;
       coming = t.coming;
       waits = t.waits;
+      stands = t.stands;
+      fills = t.fills;
+      left = t.left;
       bound = λ fills x i by_row. let b = t.bound fills x i (follows_it c x by_row) in record { to = b.to; is = b.is; instance = b.instance };
       key = t.key;
     }

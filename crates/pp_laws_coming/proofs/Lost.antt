@@ -1,5 +1,5 @@
 -- The ends of connections, and of their lines, keep it.
-use Rattle.std.proofs.Common.{◌≡◌, refl, ℕ, Bool, true, false, not, ◌&&◌, ◌||◌, List, [], ◌∷◌, Option, Some, None, sym, subst, ap, ◌∙◌}
+use Rattle.std.proofs.Common.{◌≡◌, refl, ℕ, Bool, true, false, not, ◌&&◌, ◌||◌, List, [], ◌∷◌, Option, Some, None, sym, subst, ap, ◌∙◌, le_refl}
 use Rattle.std.specs.List.{list_any}
 use Rattle.pp_law.specs.Connections.{close_conn, conn, each_conn, exchange, is_exchange, is_for, is_trying, leave_place, lose_place, may_ask_again, on_conn, on_exchange, unplaced}
 use Rattle.pp_law.specs.Lists.{is_some_with, is_this}
@@ -46,6 +46,7 @@ again-comes e s known unheaded may h = on_exchange-comes e.number unplaced s (λ
       placed = λ is was none. let both : true ≡ false = sym is ∙ (known x i its).0 ∙ unheaded in cc both;
       asked = λ was none. refl;
       key = refl;
+      left = le_refl x.body_left;
       bound = same_bound _ x refl;
       followers = λ counts was nowhere nobody. again_asked s e.number may w.0 w.1 (ap (λ (y : Exchange). y.asker) (sym one) ∙ nobody);
     }) h

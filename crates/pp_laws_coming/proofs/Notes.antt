@@ -51,7 +51,7 @@ refused_row-comes : {late : Bool} → (x : Instance) (s : State) → Holds (Comi
 unfolding refused_row forget
 refused_row-comes x s h =
     holds (row_out x.id (change (waits_for_row x.id) (λ c. record c { course = RowRefused }) s.clients) s.exchanges s.next_exchange s.instances s.next_instance
-    (facts_of (clients_if-comes (waits_for_row x.id) (λ c. record c { course = RowRefused }) s (λ c. goes_as _ c refl refl refl refl) h)))
+    (facts_of (clients_if-comes (waits_for_row x.id) (λ c. record c { course = RowRefused }) s (λ c. goes_as _ c refl refl refl refl refl) h)))
 
 refused_row-at : (x : Instance) (s : State) → Holds AtPhase s → Holds AtPhase (refused_row x s)
 unfolding refused_row forget

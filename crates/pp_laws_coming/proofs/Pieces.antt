@@ -2,12 +2,13 @@
 use Rattle.std.proofs.Common.{◌≡◌, refl, ℕ, Bool, true, false, not, ◌==◌, ◌&&◌, List, [], ◌∷◌, filter, Option, Some, None, sym, ap, ◌∙◌}
 use Rattle.pp_pass.specs.Pipe.{finished}
 use Rattle.pp_law.specs.Connections.{close_conn, end_exchange, exchange, front_of_line, is_exchange, is_for, lose_attempt, on_client_of}
+use Rattle.pp_law.specs.Lists.{is_this}
 use Rattle.pp_law.specs.Passing.{pour}
 use Rattle.pp_law.specs.Responses.{bad_head, bad_response, ended, finish, finish_first, is_whole_at_end, may_go_on, rested, skip_body, skipping}
 use Rattle.pp_law.specs.State.{State, Answer, Client, Conn, Exchange, Instance}
 use Rattle.pp_laws.specs.Runs.{IsIn}
 use Rattle.pp_laws.proofs.Lists.{changed_at, in_filter, in_find}
-use Rattle.pp_laws.proofs.Tests.{number_same}
+use Rattle.pp_laws.proofs.Tests.{number_same, same_number}
 use Rattle.pp_laws_turn.proofs.Cases.{by_aim_of, each_of, each_so, when}
 use Rattle.pp_laws_turn.proofs.Clients.{pour-keeps}
 use Rattle.pp_laws_turn.proofs.Pieces.{skip_body-keeps}
@@ -18,7 +19,7 @@ use Rattle.pp_laws_coming.proofs.Clients.{end_exchange-comes}
 use Rattle.pp_laws_coming.proofs.Facts.{ComingBut, Early, Facts}
 use Rattle.pp_laws_coming.proofs.Its.{Its, OnlyIts, its_walk, only_its, poured-comes}
 use Rattle.pp_laws_coming.proofs.Lost.{close_conn-early, close_this-comes, on_conn-comes}
-use Rattle.pp_laws_coming.proofs.Stays.{clients_come, goes_as, goes_if}
+use Rattle.pp_laws_coming.proofs.Stays.{Goes, Stays, clients_but, goes_on, stays_on}
 
 -- ---- of its exchange nothing counted, and it is over
 
@@ -45,14 +46,26 @@ over_counts e cs es next xs next_row only h = by (over_come e.asker (λ x. not (
       told = λ d n c i j asks is off. let at = in_filter (λ x. not (is_exchange e.number x)) d es i in g.told d n c i j asks is (λ its. gone d n at.0 at.1 its asks);
     }
 
-skips : (but : Option ℕ) (e : Exchange) (s : State) → Holds (ComingBut false but) s → Holds (ComingBut false but) (skip_body e s)
+skips : (e : Exchange) (s : State) → Holds (ComingBut false e.asker) s → Holds (ComingBut false e.asker) (skip_body e s)
 unfolding skip_body on_client_of
-skips but e s h =
-    by_aim_of e.aim (holds (clients_come but (changed_at (is_for e) skipping) s.clients s.exchanges s.next_exchange s.instances s.next_instance (λ c. number_by c (is_for e c)) (λ c i. goes_if skipping c (is_for e c) (goes_as _ c refl refl refl refl)) (facts_of h))) h (λ v from to. h)
+skips e s h =
+    by_aim_of e.aim (holds (clients_but e.asker (changed_at (is_for e) skipping) s.clients s.exchanges s.next_exchange s.instances s.next_instance (λ c. number_by c (is_for e c)) (λ c i. stays_by c (is_for e c)) (λ c i off. goes_by c (is_for e c) refl off) (facts_of h))) h (λ v from to. h)
   where
     number_by : (c : Client) (t : Bool) → (elim t as (λ x. Client) [ true ↦ skipping c | false ↦ c ]).number ≡ c.number
     number_by c true = refl
     number_by c false = refl
+
+    stays_by : (c : Client) (t : Bool) → Stays (elim t as (λ x. Client) [ true ↦ skipping c | false ↦ c ]) c
+    stays_by c true = record { number = refl; source = λ id is. is; front = λ key is. is; untold = λ none. none; stands = λ is. is }
+    stays_by c false = stays_on c
+
+    is_its : (n : ℕ) (o : Option ℕ) → is_this n o ≡ true → o ≡ Some n
+    is_its n None is = absurd (cc is)
+    is_its n (Some m) is = ap (λ k. Some k) (same_number m n is)
+
+    goes_by : (c : Client) (t : Bool) → is_for e c ≡ t → (e.asker ≡ Some c.number → ⊥) → Goes (elim t as (λ x. Client) [ true ↦ skipping c | false ↦ c ]) c
+    goes_by c true hit off = absurd (off (is_its c.number e.asker hit))
+    goes_by c false isnt off = goes_on c
 
 end-comes : (e : Exchange) (s : State) → Holds (Its e) s → Holds (ComingBut false e.asker) s → Holds Early (end_exchange e.number s)
 unfolding end_exchange
@@ -60,7 +73,7 @@ end-comes e s only h = holds (over_counts e s.clients s.exchanges s.next_exchang
 
 done-comes : (k : Conn) (e : Exchange) (a : Answer) (s : State) → Holds (Its e) s → Holds Early s → Holds Early (end_exchange e.number (skip_body e (pour e finished s)))
 done-comes k e a s only h =
-    end-comes e (skip_body e (pour e finished s)) (skip_body-keeps (its_walk e) e _ (pour-keeps (its_walk e) e finished s only)) (skips e.asker e (pour e finished s) (poured-comes e s h))
+    end-comes e (skip_body e (pour e finished s)) (skip_body-keeps (its_walk e) e _ (pour-keeps (its_walk e) e finished s only)) (skips e (pour e finished s) (poured-comes e s h))
 
 pub finish-comes : (k : Conn) (e : Exchange) (a : Answer) (s : State) → Holds (Its e) s → Holds Early s → Holds Early (finish k e a s)
 unfolding finish

@@ -60,7 +60,7 @@ row_off request (Some row) ready = if_off is_relay (not ready) Validate (of_know
 ready_off : (request : Request) (row : Option Row) (ready : Bool) → is_relay (by_ready request row ready) ≡ false
 ready_off request row ready = if_off is_relay (is_head request.method && not ready) Pass (by_row request row ready) refl (row_off request row ready)
 
-begun_off : (request : Request) (row : Option Row) (begun : Begun) (ready : Bool) → (begun ≡ Other → ⊥) → is_relay (by_begun request row begun ready) ≡ false
+pub begun_off : (request : Request) (row : Option Row) (begun : Begun) (ready : Bool) → (begun ≡ Other → ⊥) → is_relay (by_begun request row begun ready) ≡ false
 begun_off request row Other ready isnt = absurd (isnt refl)
 begun_off request row Widened ready isnt = refl
 begun_off request row Nothing ready isnt = ready_off request row ready
@@ -70,7 +70,7 @@ begun_off request row Settled ready isnt = ready_off request row ready
 passed_off : (request : Request) (row : Option Row) (begun : Begun) (ready : Bool) → begun ≡ Other → is_by_row (by_begun request row begun ready) ≡ false
 passed_off request row begun ready is = ap (λ b. is_by_row (by_begun request row b ready)) is
 
-decision_off : (test : Decision → Bool) (request : Request) (row : Option Row) (begun : Begun) (now : ℕ) → ((status : ℕ) → test (Refuse status) ≡ false) → test Pass ≡ false → test (by_begun request row begun (is_ready_row request row begun now)) ≡ false
+pub decision_off : (test : Decision → Bool) (request : Request) (row : Option Row) (begun : Begun) (now : ℕ) → ((status : ℕ) → test (Refuse status) ≡ false) → test Pass ≡ false → test (by_begun request row begun (is_ready_row request row begun now)) ≡ false
     → test (decision request row begun now) ≡ false
 decision_off test request row begun now refuses passes by =
     if_off test (is_connect request.method) (Refuse 400) (if is_only_cached request && asks_origin first then Refuse 504 else first) (refuses 400)
@@ -83,10 +83,10 @@ decision_off test request row begun now refuses passes by =
 
 -- ---- for a client
 
-abbrev DecidesOff : (Decision → Bool) → State → Client → Type 0
+abbrev pub DecidesOff : (Decision → Bool) → State → Client → Type 0
 DecidesOff test s c = (head : Request) (key : Key) → test (decision head (row_for s head (text_of key)) (begun_now s c (text_of key)) s.clock) ≡ false
 
-decide_off : (test : Decision → Bool) (s : State) (c : Client) → ((status : ℕ) → test (Refuse status) ≡ false) → DecidesOff test s c → (x : Decision) → decide s c ≡ Some x → test x ≡ false
+pub decide_off : (test : Decision → Bool) (s : State) (c : Client) → ((status : ℕ) → test (Refuse status) ≡ false) → DecidesOff test s c → (x : Decision) → decide s c ≡ Some x → test x ≡ false
 decide_off test s c refuses off x is = by c.front is
   where
     fit : (head : Request) (key : Key) (d : Decision) (o : Option AskKind) → test d ≡ false → test (if_fits s head key o d) ≡ false

@@ -56,7 +56,7 @@ refused_dial-comes {late} e s h = by (is_unfilled t e)
     t = on_client_of e (λ c. record c { course = lost_one (attempts_of e) c.course }) s
 
     charged : Holds (Coming late) (on_client_of e (λ c. record c { course = lost_one (attempts_of e) c.course }) s)
-    charged = on_client_of-comes e (λ c. record c { course = lost_one (attempts_of e) c.course }) s (λ c. goes_as _ c refl refl refl refl) h
+    charged = on_client_of-comes e (λ c. record c { course = lost_one (attempts_of e) c.course }) s (λ c. goes_as _ c refl refl refl refl refl) h
 
     by : (b : Bool) → Holds (Coming late) (refused_dial e (elim b as (λ c. State) [
       | false ↦ on_client_of e (λ c. record c { course = lost_one (attempts_of e) c.course }) s

@@ -1,5 +1,5 @@
 -- Rows that are out keep it.
-use Rattle.std.proofs.Common.{◌≡◌, refl, ℕ, ◌<◌, Bool, true, false, not, ◌==◌, List, filter, Option, Some, None, sym, subst, ap, ◌∙◌}
+use Rattle.std.proofs.Common.{◌≡◌, refl, ℕ, ◌≤◌, ◌<◌, Bool, true, false, not, ◌==◌, List, filter, Option, Some, None, sym, subst, ap, ◌∙◌}
 use Rattle.pp_law.specs.After.{brings_to, dropping_body}
 use Rattle.pp_law.specs.Lists.{change, is_some_with}
 use Rattle.pp_law.specs.Stages.{bound_in, bound_of, filled_of, is_headed, is_pending}
@@ -23,11 +23,14 @@ fewer_rows test cs es next xs next_row h = record {
   headed = h.headed;
   placeless = h.placeless;
   rowed = λ x i. h.rowed x (in_filter test x xs i).0;
-  settled = λ c i. record { given = (h.settled c i).given; bare = λ x j follows. (h.settled c i).bare x (in_filter test x xs j).0 follows };
+  settled = λ c i. record { given = (h.settled c i).given; bare = λ x j follows. (h.settled c i).bare x (in_filter test x xs j).0 follows; unasked = (h.settled c i).unasked };
   told = λ e n c i j asks is off. let told = h.told e n c i j asks is off in record {
     waits = told.waits;
     untold = told.untold;
     coming = told.coming;
+    stands = told.stands;
+    fills = told.fills;
+    left = told.left;
     key = told.key;
     bound = λ fills x k follows. told.bound fills x (in_filter test x xs k).0 follows;
   };
@@ -43,6 +46,7 @@ record WasBound (id : ℕ) (es : List Exchange) (d : Exchange) : Type 0 where
   place : d.place ≡ was.place
   asked : d.asked ≡ was.asked
   key : d.key ≡ was.key
+  left : d.body_left ≡ was.body_left
   headed : is_headed d ≡ is_headed was
   bound : (to : Bound) → bound_of was ≡ Some to → (to.instance ≡ id → ⊥) → IsBoundTo to.instance d
 
@@ -59,7 +63,7 @@ was_bound id es d i = by (in_change (brings_to id) dropping_body d es i)
     its e to hit is = same_number to.instance id (sym (ap (λ (o : Option Bound). is_some_with (λ b. b.instance == id) o) is) ∙ hit)
 
     by : Changed (brings_to id) dropping_body es d → WasBound id es d
-    by (same j isnt) = record { was = d; there = j; number = refl; fills = refl; asker = refl; place = refl; asked = refl; key = refl; headed = refl; bound = λ to is off. record { to = to; is = is; instance = refl } }
+    by (same j isnt) = record { was = d; there = j; number = refl; fills = refl; asker = refl; place = refl; asked = refl; key = refl; left = refl; headed = refl; bound = λ to is off. record { to = to; is = is; instance = refl } }
     by (other e j hit eq) = record {
       was = e;
       there = j;
@@ -69,6 +73,7 @@ was_bound id es d i = by (in_change (brings_to id) dropping_body d es i)
       place = ap (λ (x : Exchange). x.place) eq;
       asked = ap (λ (x : Exchange). x.asked) eq;
       key = ap (λ (x : Exchange). x.key) eq;
+      left = ap (λ (x : Exchange). x.body_left) eq;
       headed = ap is_headed eq ∙ sym (headed_by e e.body refl hit);
       bound = λ to is off. absurd (off (its e to hit is));
     }
@@ -108,6 +113,9 @@ row_out {late} id cs es next xs next_row whole = record {
       waits = λ fills off. told.waits (sym r.fills ∙ fills) (sym r.headed ∙ off);
       untold = λ off. told.untold (sym r.headed ∙ off);
       coming = told.coming;
+      stands = told.stands;
+      fills = λ v is. told.fills v (sym r.fills ∙ is);
+      left = subst (λ n. n ≤ c.body_left) (sym r.left) told.left;
       key = told.key ∙ ap (λ k. Some k) (sym r.key);
       bound = λ fills x k follows. (
           let b = told.bound (sym r.fills ∙ fills) x k follows in

@@ -1,5 +1,5 @@
 -- Which changes of clients keep it.
-use Rattle.std.proofs.Common.{◌≡◌, refl, ℕ, Bool, true, false, List, map, Option, Some, None, sym, subst, ap, ◌∙◌}
+use Rattle.std.proofs.Common.{◌≡◌, refl, ℕ, ◌≤◌, Bool, true, false, List, map, Option, Some, None, sym, subst, ap, ◌∙◌, le_refl, le_trans}
 use Rattle.pp_target.specs.Key.{Key}
 use Rattle.pp_law.specs.Connections.{is_client}
 use Rattle.pp_law.specs.Lists.{change, is_some_with}
@@ -10,7 +10,7 @@ use Rattle.pp_laws.specs.Runs.{IsIn}
 use Rattle.pp_laws.proofs.Lists.{Changed, changed_at, in_change, in_map, other, same}
 use Rattle.pp_laws.proofs.Sound.{source_in}
 use Rattle.pp_laws.proofs.Tests.{same_number}
-use Rattle.pp_laws_coming.specs.Coming.{IsComing, Waits, is_waiting}
+use Rattle.pp_laws_coming.specs.Coming.{IsComing, Waits, is_waiting, may_have_ask}
 use Rattle.pp_laws_coming.proofs.Facts.{Facts, Follows, IsTold, Settled}
 
 -- ---- clients
@@ -21,18 +21,21 @@ pub record Stays (d c : Client) : Type 0 where
   pub source : (id : ℕ) → source_in d.stage ≡ Some id → source_in c.stage ≡ Some id
   pub front : (key : Key) → key_in c.front ≡ Some key → key_in d.front ≡ Some key
   pub untold : passed_of c ≡ None → passed_of d ≡ None
+  pub stands : may_have_ask c.stage ≡ true → may_have_ask d.stage ≡ true
 
 -- and it waits where it did, and no less is to come
 pub record Goes (d c : Client) : Type 0 where
   pub stays : Stays d c
   pub waits : Waits c → Waits d
   pub coming : IsComing c → IsComing d
+  pub answers : is_waiting c.stage ≡ false → is_waiting d.stage ≡ false
+  pub left : (key : Key) → key_in c.front ≡ Some key → c.body_left ≤ d.body_left
 
 pub stays_on : (c : Client) → Stays c c
-stays_on c = record { number = refl; source = λ id is. is; front = λ key is. is; untold = λ none. none }
+stays_on c = record { number = refl; source = λ id is. is; front = λ key is. is; untold = λ none. none; stands = λ is. is }
 
 pub goes_on : (c : Client) → Goes c c
-goes_on c = record { stays = stays_on c; waits = λ w. w; coming = λ is. is }
+goes_on c = record { stays = stays_on c; waits = λ w. w; coming = λ is. is; answers = λ off. off; left = λ key is. le_refl c.body_left }
 
 abbrev pub passed_in : Brought → Option Passed
 passed_in b = elim b as (λ x. Option Passed) [ Awaited ↦ None | Useless ↦ None | Joins id plain ↦ None | Passes p ↦ Some p | TooWide ↦ None ]
@@ -41,23 +44,26 @@ passed_in b = elim b as (λ x. Option Passed) [ Awaited ↦ None | Useless ↦ N
 abbrev pub is_whole_in : Brought → Bool
 is_whole_in b = is_some_with (λ p. p.pipe.is_finished) (elim b as (λ x. Option Passed) [ Awaited ↦ None | Useless ↦ None | Joins id plain ↦ None | Passes p ↦ Some p | TooWide ↦ None ])
 
-pub goes_at : (d c : Client) → d.number ≡ c.number → ((key : Key) → key_in c.front ≡ Some key → key_in d.front ≡ Some key) → d.stage ≡ c.stage → d.brought ≡ c.brought → Goes d c
-goes_at d c number front stage brought = record {
-  stays = record { number = number; source = λ id is. sym (ap source_in stage) ∙ is; front = front; untold = λ none. ap passed_in brought ∙ none };
+pub goes_at : (d c : Client) → d.number ≡ c.number → ((key : Key) → key_in c.front ≡ Some key → key_in d.front ≡ Some key) → d.stage ≡ c.stage → d.brought ≡ c.brought → ((key : Key) → key_in c.front ≡ Some key → c.body_left ≤ d.body_left) → Goes d c
+goes_at d c number front stage brought left = record {
+  left = left;
+  stays = record { number = number; source = λ id is. sym (ap source_in stage) ∙ is; front = front; untold = λ none. ap passed_in brought ∙ none; stands = λ is. ap may_have_ask stage ∙ is };
   waits = λ w. record { stage = ap is_waiting stage ∙ w.stage; brought = brought ∙ w.brought };
   coming = λ is. ap is_whole_in brought ∙ is;
+  answers = λ off. ap is_waiting stage ∙ off;
 }
 
-pub goes_as : (d c : Client) → d.number ≡ c.number → d.front ≡ c.front → d.stage ≡ c.stage → d.brought ≡ c.brought → Goes d c
-goes_as d c number front stage brought = goes_at d c number (λ key is. ap key_in front ∙ is) stage brought
+pub goes_as : (d c : Client) → d.number ≡ c.number → d.front ≡ c.front → d.stage ≡ c.stage → d.brought ≡ c.brought → d.body_left ≡ c.body_left → Goes d c
+goes_as d c number front stage brought left = goes_at d c number (λ key is. ap key_in front ∙ is) stage brought (λ key is. subst (λ n. c.body_left ≤ n) (sym left) (le_refl c.body_left))
 
 pub goes_if : (f : Client → Client) (c : Client) (t : Bool) → Goes (f c) c → Goes (elim t as (λ x. Client) [ true ↦ f c | false ↦ c ]) c
 goes_if f c true goes = goes
 goes_if f c false goes = goes_on c
 
 -- who follows nothing is
-pub unsourced : (xs : List Instance) (next_row : ℕ) (c : Client) → source_in c.stage ≡ None → Settled xs next_row c
-unsourced xs next_row c none = record {
+pub unsourced : (xs : List Instance) (next_row : ℕ) (c : Client) → source_in c.stage ≡ None → (may_have_ask c.stage ≡ false → passed_of c ≡ None) → Settled xs next_row c
+unsourced xs next_row c none unasked = record {
+  unasked = unasked;
   given = λ id is. (let both : None ≡ Some id = sym none ∙ is in absurd (cc both));
   bare = λ x i follows. (let both : None ≡ Some x.id = sym none ∙ follows.source in absurd (cc both));
 }
@@ -69,13 +75,21 @@ settled_on : (xs : List Instance) (next_row : ℕ) (d c : Client) → Stays d c 
 settled_on xs next_row d c stays settled = record {
   given = λ id is. settled.given id (stays.source id is);
   bare = λ x i follows. stays.untold (settled.bare x i (follows_on x d c stays follows));
+  unasked = λ off. stays.untold (settled.unasked (less (may_have_ask c.stage) refl off));
 }
+  where
+    less : (t : Bool) → may_have_ask c.stage ≡ t → may_have_ask d.stage ≡ false → t ≡ false
+    less true on off = let both : true ≡ false = sym (stays.stands on) ∙ off in absurd (cc both)
+    less false isnt off = refl
 
 told_on : (xs : List Instance) (e : Exchange) (d c : Client) → Goes d c → IsTold xs e c → IsTold xs e d
 told_on xs e d c goes told = record {
   waits = λ fills off. goes.waits (told.waits fills off);
   untold = λ off. goes.stays.untold (told.untold off);
   coming = goes.coming told.coming;
+  stands = goes.stays.stands told.stands;
+  fills = λ v is. goes.answers (told.fills v is);
+  left = le_trans told.left (goes.left e.key told.key);
   key = goes.stays.front e.key told.key;
   bound = λ fills x i follows. told.bound fills x i (follows_on x d c goes.stays follows);
 }

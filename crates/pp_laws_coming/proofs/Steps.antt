@@ -1,5 +1,5 @@
 -- Places, what is not seen, marks, the clock and the end of a turn keep it.
-use Rattle.std.proofs.Common.{◌≡◌, refl, ℕ, max, Bool, true, false, ◌&&◌, not, List, [], ◌∷◌, map, Option, Some, None, ap, subst, sym, ◌∙◌}
+use Rattle.std.proofs.Common.{◌≡◌, refl, ℕ, max, Bool, true, false, ◌&&◌, not, List, [], ◌∷◌, map, Option, Some, None, ap, subst, sym, ◌∙◌, le_refl}
 use Rattle.pp_peers.specs.declared.placing.Placed.{Placed}
 use Rattle.pp_peers.specs.declared.placing.Placed.TheVariants.{On, Dial, CloseThenDial, Wait}
 use Rattle.pp_world.specs.declared.event.Wants.{Wants}
@@ -34,6 +34,7 @@ placed_ask k e = record {
   placed = λ is was none. cc none;
   asked = λ was none. refl;
   key = refl;
+  left = le_refl e.body_left;
   bound = same_bound _ e refl;
   followers = λ counts was nowhere nobody. cc nowhere;
 }
@@ -100,14 +101,14 @@ drop_unseen-comes s h = each_conn-comes drop_on drop_on-comes _ s h
 
 pub touch-comes : (n : ℕ) (s : State) → Holds Early s → Holds Early (touch n s)
 unfolding touch
-touch-comes n s h = on_conn-comes n (marked_conn s.clock) _ (on_client-comes n (marked_client s.clock) s (λ c. refl) (λ c i hit. goes_as _ c refl refl refl refl) h)
+touch-comes n s h = on_conn-comes n (marked_conn s.clock) _ (on_client-comes n (marked_client s.clock) s (λ c. refl) (λ c i hit. goes_as _ c refl refl refl refl refl) h)
 
 marks_anew-comes : (now : ℕ) (s : State) → Holds Early s → Holds Early (marks_anew now s)
 unfolding marks_anew
 marks_anew-comes now s h = when (is_leap now s) marked h
   where
     marked : Holds Early (record s { has_ticked = true; clients = map (marked_client now) s.clients; conns = map (marked_conn now) s.conns })
-    marked = holds (facts_of (all_clients-comes (marked_client now) s (λ c. goes_as _ c refl refl refl refl) h))
+    marked = holds (facts_of (all_clients-comes (marked_client now) s (λ c. goes_as _ c refl refl refl refl refl) h))
 
 end_patience-comes : (k : Conn) (s : State) → Holds Early s → Holds Early (end_patience k s)
 unfolding end_patience
@@ -125,7 +126,7 @@ woken_goes : (now : ℕ) (s : State) (c : Client) → Goes (woken_client now s c
 woken_goes now s c = by (waits_for_exchange s c && not (has_to_say s c))
   where
     by : (t : Bool) → Goes (elim t as (λ d. Client) [ true ↦ marked_client now c | false ↦ c ]) c
-    by true = goes_as _ c refl refl refl refl
+    by true = goes_as _ c refl refl refl refl refl
     by false = goes_on c
 
 renew_marks-comes : (now : ℕ) (s : State) → Holds Early s → Holds Early (renew_marks now s)
@@ -165,7 +166,7 @@ rested_ask s e = by e.body refl
     by Pending is = ask_same e
     by Relaying is = ask_same e
     by Dropping is = ask_same e
-    by (Joining b) is = as_it_was _ e refl refl refl (sym (ap (λ (x : Body). not (is_pending x)) is)) refl refl (λ to at. record { to = wanted_to s b; is = refl; instance = its b to is at }) (λ was. was)
+    by (Joining b) is = as_it_was _ e refl refl refl (sym (ap (λ (x : Body). not (is_pending x)) is)) refl refl (le_refl e.body_left) (λ to at. record { to = wanted_to s b; is = refl; instance = its b to is at }) (λ was. was)
 
 pub rest_with-comes : (w : Wants) (s : State) → Holds Early s → Holds Early (rest_with w s)
 unfolding rest_with
@@ -174,4 +175,4 @@ rest_with-comes w s h =
     (rows (map rested_instance s.instances) s.next_instance (record (view s) { clients = map (rested_client s) s.clients; exchanges = map (rested_exchange s) s.exchanges })
     (rows_mapped (record (view s) { clients = map (rested_client s) s.clients; exchanges = map (rested_exchange s) s.exchanges }) rested_instance (λ x. record { id = refl; key = refl; is_new = λ is. absurd (cc is); retired = λ is. is }))
     (asks_come None (rested_exchange s) (map (rested_client s) s.clients) s.exchanges s.next_exchange s.instances s.next_instance (λ e i. rested_ask s e)
-    (clients_come None (rested_client s) s.clients s.exchanges s.next_exchange s.instances s.next_instance (λ c. refl) (λ c i. goes_as _ c refl refl refl refl) (facts_of h))))
+    (clients_come None (rested_client s) s.clients s.exchanges s.next_exchange s.instances s.next_instance (λ c. refl) (λ c i. goes_as _ c refl refl refl refl refl) (facts_of h))))

@@ -1,5 +1,5 @@
 -- A head that came to an exchange, and what its client is told by it, keep it.
-use Rattle.std.proofs.Common.{◌≡◌, ◌⊎◌, refl, ℕ, ◌<◌, Bool, true, false, not, ◌==◌, List, Option, Some, None, inl, inr, sym, subst, ap, ◌∙◌}
+use Rattle.std.proofs.Common.{◌≡◌, ◌⊎◌, refl, ℕ, ◌<◌, ◌≤◌, Bool, true, false, not, ◌==◌, List, Option, Some, None, inl, inr, sym, subst, ap, ◌∙◌}
 use Rattle.pp_law.specs.Connections.{is_exchange, is_for}
 use Rattle.pp_law.specs.Lists.{change, is_this}
 use Rattle.pp_law.specs.OwnHeads.{is_asked_by, key_of}
@@ -30,6 +30,7 @@ record WasHeaded (e : Exchange) (es : List Exchange) (d : Exchange) : Type 0 whe
   place : d.place ≡ was.place
   asked : d.asked ≡ was.asked
   key : d.key ≡ was.key
+  left : d.body_left ≡ was.body_left
   headed : ((is_headed d ≡ is_headed was) × BoundOn d was) ⊎ ((was ≡ e) × (is_headed d ≡ true))
 
 module _ (e : Exchange) (body : Body) (come : is_pending body ≡ false) (cs : List Client) (es : List Exchange) (next : ℕ) (xs : List Instance) (next_row : ℕ) (there : IsIn e es) (placed : e.place ≡ None → ⊥)
@@ -38,7 +39,7 @@ module _ (e : Exchange) (body : Body) (come : is_pending body ≡ false) (cs : L
   was_headed d i = by (in_change (is_exchange e.number) (with_body body) d es i)
     where
       by : Changed (is_exchange e.number) (with_body body) es d → WasHeaded e es d
-      by (same j isnt) = record { was = d; there = j; number = refl; fills = refl; asker = refl; place = refl; asked = refl; key = refl; headed = inl (refl, same_bound d d refl) }
+      by (same j isnt) = record { was = d; there = j; number = refl; fills = refl; asker = refl; place = refl; asked = refl; key = refl; left = refl; headed = inl (refl, same_bound d d refl) }
       by (other x j hit eq) = record {
         was = x;
         there = j;
@@ -48,6 +49,7 @@ module _ (e : Exchange) (body : Body) (come : is_pending body ≡ false) (cs : L
         place = ap (λ (y : Exchange). y.place) eq;
         asked = ap (λ (y : Exchange). y.asked) eq;
         key = ap (λ (y : Exchange). y.key) eq;
+        left = ap (λ (y : Exchange). y.body_left) eq;
         headed = inr (h.apart x e j there (same_number x.number e.number hit), ap is_headed eq ∙ ap not come);
       }
 
@@ -87,6 +89,9 @@ module _ (e : Exchange) (body : Body) (come : is_pending body ≡ false) (cs : L
             waits = λ fills unheaded. told.waits (sym r.fills ∙ fills) (sym as_was.0 ∙ unheaded);
             untold = λ unheaded. told.untold (sym as_was.0 ∙ unheaded);
             coming = told.coming;
+            stands = told.stands;
+            fills = λ v is. told.fills v (sym r.fills ∙ is);
+            left = subst (λ m. m ≤ c.body_left) (sym r.left) told.left;
             key = key;
             bound = λ fills x k follows. (
                 let b = told.bound (sym r.fills ∙ fills) x k follows in
@@ -97,6 +102,9 @@ module _ (e : Exchange) (body : Body) (come : is_pending body ≡ false) (cs : L
             waits = λ fills unheaded. (let both : true ≡ false = sym at.1 ∙ unheaded in absurd (cc both));
             untold = λ unheaded. (let both : true ≡ false = sym at.1 ∙ unheaded in absurd (cc both));
             coming = told.coming;
+            stands = told.stands;
+            fills = λ v is. told.fills v (sym r.fills ∙ is);
+            left = subst (λ m. m ≤ c.body_left) (sym r.left) told.left;
             key = key;
             bound = λ fills x k follows. absurd ((keyed n c x (ap (λ (y : Exchange). y.asker) (sym at.0) ∙ asks) j is k follows).0 (ap filled_of (sym at.0) ∙ sym r.fills ∙ fills));
           }
@@ -140,7 +148,7 @@ module _ (e : Exchange) (body : Body) (come : is_pending body ≡ false) (cs : L
 
       settled_by : (c : Client) → Changed (is_asked_by e) (λ x. record x { brought = b }) cs c → Settled xs next_row c
       settled_by c (same j isnt) = h.settled c j
-      settled_by c (other x j hit eq) = subst (λ (y : Client). Settled xs next_row y) (sym eq) (record { given = (h.settled x j).given; bare = λ y k follows. bare x.number x y (its_asker x hit) j refl k (record { stands = follows.stands; source = follows.source }) })
+      settled_by c (other x j hit eq) = subst (λ (y : Client). Settled xs next_row y) (sym eq) (record { given = (h.settled x j).given; unasked = λ off. (let told = h.told e x.number x there j (its_asker x hit) refl (λ none. cc none) in let both : true ≡ false = sym told.stands ∙ off in absurd (cc both)); bare = λ y k follows. bare x.number x y (its_asker x hit) j refl k (record { stands = follows.stands; source = follows.source }) })
 
       by : (d : Exchange) (n : ℕ) (c : Client) → IsIn d (with_bodies e body es) → d.asker ≡ Some n → c.number ≡ n → (None ≡ Some n → ⊥) → Changed (is_asked_by e) (λ x. record x { brought = b }) cs c → IsTold xs d c
       by d n c i asks is off (same j isnt) = headed_come.told d n c i j asks is off
@@ -152,6 +160,9 @@ module _ (e : Exchange) (body : Body) (come : is_pending body ≡ false) (cs : L
             waits = λ fills unheaded. (let both : true ≡ false = sym (its_headed d n i asks its) ∙ unheaded in absurd (cc both));
             untold = λ unheaded. (let both : true ≡ false = sym (its_headed d n i asks its) ∙ unheaded in absurd (cc both));
             coming = more;
+            stands = before.stands;
+            fills = before.fills;
+            left = before.left;
             key = before.key;
             bound = λ fills y k follows. before.bound fills y k (record { stands = follows.stands; source = follows.source });
           })

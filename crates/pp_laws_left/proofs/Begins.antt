@@ -207,7 +207,7 @@ said_fine n c offered h = by (is_empty c.interim_left) refl
 
 -- ---- a request is heard, or is next
 
-heard_stage : (c : Client) (front : Front) → (elim front as (λ x. Client) [ NoHeadYet ↦ fronted c | NoFront status ↦ c | IsRequest r ↦ c ]).stage ≡ c.stage
+pub heard_stage : (c : Client) (front : Front) → (elim front as (λ x. Client) [ NoHeadYet ↦ fronted c | NoFront status ↦ c | IsRequest r ↦ c ]).stage ≡ c.stage
 heard_stage c NoHeadYet = refl
 heard_stage c (NoFront status) = refl
 heard_stage c (IsRequest r) = refl

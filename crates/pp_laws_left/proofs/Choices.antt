@@ -42,7 +42,7 @@ AreAlike c s = (e : Client) → IsIn e s.clients → e.number ≡ c.number → e
 
 -- ---- pages, asks, replies that are passed
 
-waits_for : (d : Decision) (r : Reply) → stage_for d ≡ Answering r → ⊥
+pub waits_for : (d : Decision) (r : Reply) → stage_for d ≡ Answering r → ⊥
 waits_for Pass r is = cc is
 waits_for (Refuse status) r is = cc is
 waits_for (Hit from to) r is = cc is
@@ -110,7 +110,7 @@ relay_fine c s one asked h =
 
 -- ---- a reply by the row
 
-rows_pass : (d : Decision) → is_by_row d ≡ true → is_passing d ≡ true → ⊥
+pub rows_pass : (d : Decision) → is_by_row d ≡ true → is_passing d ≡ true → ⊥
 rows_pass (Refuse status) is on = cc on
 rows_pass (Hit from to) is on = cc on
 rows_pass (Part from to) is on = cc on

@@ -100,7 +100,7 @@ obeys_passed stops {terms} {log} s obeys = by (stops s)
     by true = obeys
     by false = by_done (is_done s) refl
 
-obeys_coming : (stops : State → Bool) (ps : List Phase) {terms : List Term} {log : Log} (s : State) → Obeys terms s log → Obeys terms (come stops ps s) log
+pub obeys_coming : (stops : State → Bool) (ps : List Phase) {terms : List Term} {log : Log} (s : State) → Obeys terms s log → Obeys terms (come stops ps s) log
 unfolding come
 obeys_coming stops [] s obeys = obeys
 obeys_coming stops (p ∷ ps) {terms} {log} s obeys = obeys_coming stops ps _ (by (is_at p s))

@@ -1,12 +1,18 @@
--- What a turn leaves of replies, and of places where no head is (RFC 2616, sections 5.1, 6 and 10.4). All of it is ours.
-use Rattle.std.specs.Prelude.{◌≡◌, ◌⊎◌, ℕ, ◌≤◌, nat_lt, true, false, List, is_some}
+-- What a turn leaves of replies, of what is said and passed, and of places where no head is (RFC 2616, sections 5.1, 6 and 10.4). All of it is ours.
+use Rattle.std.specs.Prelude.{◌≡◌, ◌⊎◌, ℕ, ◌≤◌, nat_lt, true, false, List, is_some, Some}
 use Rattle.pp_world.specs.Log.{Log}
+use Rattle.pp_law.specs.Asking.{has_room}
+use Rattle.pp_law.specs.Connections.{is_for, is_trying}
 use Rattle.pp_law.specs.Phases.{come_to}
+use Rattle.pp_law.specs.Replies.{begin_replies, is_said}
 use Rattle.pp_law.specs.Requests.{NoHead}
 use Rattle.pp_law.specs.Stages.{is_begun, is_followed_by, is_passing, is_undecided, passed_of}
-use Rattle.pp_law.specs.State.{State, DecidingAgain, Term, Client, Reply, Answering}
+use Rattle.pp_law.specs.State.{State, DecidingAgain, Term, Client, Exchange, Passed, Reply, Answering}
+use Rattle.pp_law.specs.Served.{waits_for_body}
+use Rattle.pp_law.specs.Table.{Next, is_provided, next_of}
 use Rattle.pp_laws.specs.Runs.{IsIn}
-use Rattle.pp_laws_served.specs.Served.{IsReply, is_by_row}
+use Rattle.pp_laws_ends.specs.Ends.{AreToPass}
+use Rattle.pp_laws_served.specs.Served.{HasExchange, IsLeft, IsReply, MayEnd, is_by_row, is_unanswered}
 use Rattle.pp_obeys.specs.Obeys.{Obeys}
 
 -- a reply that was decided: what `IsReply` of `pp_laws_served` has, but that one that is passed has its response
@@ -34,3 +40,59 @@ TurnsAreLeft = (terms : List Term) (s : State) (log : Log) → Obeys terms s log
 -- and in that in which a turn ends, before replies begin
 abbrev pub EndsAreLeft : Type 0
 EndsAreLeft = (terms : List Term) (s : State) (log : Log) → Obeys terms s log → IsLeftOn (come_to DecidingAgain s)
+
+-- ---- what is said, and what is passed
+
+-- of whoever goes on: a reply that was said whole is over, and one that is passed has its response
+pub record IsSpoken (s : State) : Type 0 where
+  pub unsaid : (c : Client) → IsIn c s.clients → c.is_closing ≡ false → is_said c ≡ false
+  pub replies : (c : Client) (r : Reply) → IsIn c s.clients → c.is_closing ≡ false → c.stage ≡ Answering r → IsReply c r
+
+abbrev pub TurnsAreSpoken : Type 0
+TurnsAreSpoken = (terms : List Term) (s : State) (log : Log) → Obeys terms s log → IsSpoken s
+
+-- so it is of everybody where a turn may end, as nobody is closing there: the fields `unsaid` and `replies` of `IsLeft`
+pub record IsSpokenAll (t : State) : Type 0 where
+  pub unsaid : (c : Client) → IsIn c t.clients → is_said c ≡ false
+  pub replies : (c : Client) (r : Reply) → IsIn c t.clients → c.stage ≡ Answering r → IsReply c r
+
+abbrev pub EndsAreSpoken : Type 0
+EndsAreSpoken = (terms : List Term) (s : State) (log : Log) → MayEnd terms s log → IsSpokenAll (come_to DecidingAgain s)
+
+-- ---- what is passed
+
+-- whose pipe has no room may be answered by what is passed: the field `passes`
+abbrev pub EndsAreToPass : Type 0
+EndsAreToPass = (terms : List Term) (s : State) (log : Log) → MayEnd terms s log → AreToPass (begin_replies (come_to DecidingAgain s))
+
+-- ---- whose body is waited for
+
+-- it is there, did not hang up, and has room for more of it (section 8.2.3)
+pub record IsSender (u : State) (e : Exchange) : Type 0 where
+  pub sender : Client
+  pub there : IsIn sender u.clients
+  pub its : is_for e sender ≡ true
+  pub stays : sender.has_hung_up ≡ false
+  pub room : has_room sender ≡ true
+
+-- the client of each exchange that is somebody's: the field `bodies`, for these
+abbrev pub SendersAreThere : Type 0
+SendersAreThere = (terms : List Term) (s : State) (log : Log) → MayEnd terms s log → (e : Exchange) (n : ℕ) → IsIn e (begin_replies (come_to DecidingAgain s)).exchanges → e.asker ≡ Some n → waits_for_body (begin_replies (come_to DecidingAgain s)) e ≡ true
+    → IsSender (begin_replies (come_to DecidingAgain s)) e
+
+-- ---- all that is left
+
+-- what is said of exchanges
+pub record IsLeftOfAsks (t : State) : Type 0 where
+  -- `ends_are_ready` of `pp_laws_served` has it (`IsReady`)
+  pub filled : (c : Client) (n : Next) → IsIn c t.clients → next_of t c ≡ Some n → is_trying c.course ≡ true → n.source.is_retired ≡ false → is_provided t n ≡ true
+  -- no source yet: an exchange is over only where its request was told of it, may be asked no more, or left it
+  pub asked : (c : Client) → IsIn c t.clients → is_unanswered c ≡ true → is_trying c.course ≡ true → HasExchange t c
+  -- no source: the law has it not, where attempts count anew behind a response that turned out bad within the read that brought its head
+  pub amid : (c : Client) (r : Reply) (p : Passed) → IsIn c t.clients → c.stage ≡ Answering r → is_passing r.decision ≡ true → passed_of c ≡ Some p → p.is_short ≡ false → p.pipe.is_finished ≡ false → is_trying c.course ≡ true → HasExchange t c
+  -- no source yet: what is nobody's is dropped before it waits for a body, as followers ask (`drop_unseen`)
+  pub owned : (e : Exchange) → IsIn e (begin_replies t).exchanges → is_some e.place ≡ true → waits_for_body (begin_replies t) e ≡ true → is_some e.asker ≡ true
+
+-- where a turn may end, then, all of what it leaves
+abbrev pub LeftIsLeft : Type 0
+LeftIsLeft = (terms : List Term) (s : State) (log : Log) → MayEnd terms s log → IsLeftOfAsks (come_to DecidingAgain s) → IsLeft (come_to DecidingAgain s)

@@ -1,5 +1,5 @@
-// What a turn leaves of replies, and of places where no head is.
-ghost use Rattle.pp_laws_left.specs.Left.{EndsAreLeft, TurnsAreLeft};
+// What a turn leaves of replies, of what is said and passed, and of places where no head is.
+ghost use Rattle.pp_laws_left.specs.Left.{EndsAreLeft, EndsAreSpoken, EndsAreToPass, LeftIsLeft, SendersAreThere, TurnsAreLeft, TurnsAreSpoken};
 
 /// No reply goes on behind its end, one that is passed has no bytes of a row, and any other has its row; and a place where no head is
 /// has a page, once something was decided for it.
@@ -10,4 +10,26 @@ pub fn turns_are_left()
 /// So it is in the state in which a turn ends, before replies begin.
 pub fn ends_are_left()
     ensures left { EndsAreLeft }
+{}
+
+/// As long as a client goes on, no reply that was said whole does, and one that is passed has its response; and so it is of everybody
+/// where a turn may end.
+pub fn turns_are_spoken()
+    ensures spoken { TurnsAreSpoken }
+    ensures ends { EndsAreSpoken }
+{}
+
+/// As a turn ends, whose pipe has no room may be answered by what is passed.
+pub fn ends_are_to_pass()
+    ensures pass { EndsAreToPass }
+{}
+
+/// As a turn ends, the client of an exchange that waits for its body is there, did not hang up, and has room.
+pub fn senders_are_there()
+    ensures there { SendersAreThere }
+{}
+
+/// So of what a turn leaves nothing is to be shown any more but what is said of exchanges.
+pub fn left_is_left()
+    ensures left { LeftIsLeft }
 {}

@@ -1,12 +1,12 @@
-//! What a turn leaves of replies, and of places where no head is, in each state that a lawful log may go on as from.
+//! What a turn leaves of replies, of what is said and passed, and of places where no head is, in each state that a lawful log may go on
+//! as from, and in that in which a turn ends.
 //!
-//! To the layer above: two laws, each the clause of a function that does nothing; the second is of the state in which a turn ends, before
-//! replies begin. They give two fields of `IsLeft` of `pp_laws_served`: `heads`, and `replies` where a reply that is passed has its
-//! response. That it has it is not said here, nor what a turn leaves of exchanges.
+//! To the layer above: laws, each the clause of a function that does nothing. Of `IsLeft` of `pp_laws_served` they give `heads`, and
+//! where a turn may end `replies`, `unsaid` and `passes`, so that what is left to be shown is said of exchanges (`IsLeftOfAsks`).
 //!
 //! Takes no memory, and does nothing when the program runs.
 #![tactic(auto)]
 
-mod left; // what a turn leaves of replies, and of places where no head is
+mod left; // what a turn leaves of replies, of what is said and passed, and of places where no head is
 
-pub use left::{ends_are_left, turns_are_left};
+pub use left::{ends_are_left, ends_are_to_pass, left_is_left, senders_are_there, turns_are_left, turns_are_spoken};
