@@ -50,9 +50,9 @@ pub left_numbers : (s t : State) → IsButForCells (left_memory s) t → numbers
 left_numbers s t left = ap (λ (u : State). numbers_of u.seats.items) left.rest
 
 pub leaves_on : (x : Moving) (anew left given : State) (top : ℕ) (old new : Option Log) (before now : ℕ) → top ≡ x.top → Regains x.desk (record x.desk { state = anew }) → IsButForCells (left_memory anew) left → AppendsAll old new (λ l. leaving_notes anew) → before ≤ now
-    → (AreInOrder (flow_numbers left.flow.waiting) → parts given ≡ all_given_up (flow_numbers left.flow.waiting) (parts left)) → numbers_of given.seats.items ≡ numbers_of left.seats.items → KeepsRest left given
+    → (AreInOrder (flow_numbers left.flow.waiting) → parts given ≡ all_given_up (flow_numbers left.flow.waiting) (parts left)) → numbers_of given.seats.items ≡ numbers_of left.seats.items → given.is_astray ≡ left.is_astray → KeepsRest left given
     → LeadsOn Leaves x (record (with_state given x) { top = top }) old new before now
-leaves_on x anew left given top old new before now same again leaves told more is numbers rest = record {
+leaves_on x anew left given top old new before now same again leaves told more is numbers astray rest = record {
   added = leaving_notes anew;
   is = record {
     anew = record x.desk { state = anew };
@@ -60,7 +60,7 @@ leaves_on x anew left given top old new before now same again leaves told more i
     log_is = refl;
     regains = again;
     leaves = record { is = leaves; rest = refl };
-    gives = given_up (record x.desk { state = left }) given is numbers rest;
+    gives = given_up (record x.desk { state = left }) given is numbers astray rest;
     links = refl;
     top = same;
   };

@@ -27,8 +27,8 @@ keeps_desk : (d : Desk) (s : State) → KeepsRest d.state s → KeepsDesk d (rec
 keeps_desk d s rest = ap (λ (t : State). record d { state = t }) rest
 
 pub given_up : (d : Desk) (s : State) → (AreInOrder (flow_numbers d.state.flow.waiting) → parts s ≡ all_given_up (flow_numbers d.state.flow.waiting) (parts d.state)) → numbers_of s.seats.items ≡ numbers_of d.state.seats.items
-    → KeepsRest d.state s → GivesUp d (record d { state = s })
-given_up d s is numbers rest = record { is = λ rises. ap (λ (p : Parts). record (sides d) { parts = p }) (is rises); numbers = numbers; rest = keeps_desk d s rest }
+    → s.is_astray ≡ d.state.is_astray → KeepsRest d.state s → GivesUp d (record d { state = s })
+given_up d s is numbers astray rest = record { is = λ rises. ap (λ (p : Parts). record (sides d) { parts = p }) (is rises); numbers = numbers; astray = astray; rest = keeps_desk d s rest }
 
 pub all_filled : (d : Desk) (s : State) → parts s ≡ filled d.state.is_stopped d.state.name.items d.state.awake.items (parts d.state) → numbers_of s.seats.items ≡ numbers_of d.state.seats.items → KeepsRest d.state s
     → Fills d (record d { state = s })

@@ -29,6 +29,7 @@ pub record Becomes (f : Sides → Sides) (old new : Desk) : Type 0 where
 pub record GivesUp (old new : Desk) : Type 0 where
   pub is : AreInOrder (flow_numbers old.state.flow.waiting) → sides new ≡ with_parts (all_given_up (flow_numbers old.state.flow.waiting)) (sides old)
   pub numbers : numbers_of new.state.seats.items ≡ numbers_of old.state.seats.items
+  pub astray : new.state.is_astray ≡ old.state.is_astray
   pub rest : KeepsDesk old new
 
 -- followers ask

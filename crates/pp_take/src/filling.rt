@@ -160,6 +160,7 @@ fn hole_errand(
 pub fn give_up_asks(state: &mut State)
     ensures is { AreSeated state.old → AreInOrder (numbers state.old.flow.waiting) → parts state.new ≡ all_given_up (numbers state.old.flow.waiting) (parts state.old) }
     ensures numbers { numbers_of state.new.seats.items ≡ numbers_of state.old.seats.items }
+    ensures astray { state.new.is_astray ≡ state.old.is_astray }
     ensures rest { KeepsRest state.old state.new }
 {
     let mut after: Option<u64> = None;
@@ -175,6 +176,7 @@ pub fn give_up_asks(state: &mut State)
 fn give_up_ask(state: &mut State, number: u64)
     ensures is { AreSeated state.old → parts state.new ≡ given_up_if number (parts state.old) }
     ensures numbers { numbers_of state.new.seats.items ≡ numbers_of state.old.seats.items }
+    ensures astray { state.new.is_astray ≡ state.old.is_astray }
     ensures rest { KeepsRest state.old state.new }
 {
     if is_useless(state, number) {

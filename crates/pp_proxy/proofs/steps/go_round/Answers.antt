@@ -39,7 +39,7 @@ returns-clause-is g c = λ seated.
     gone_round c.args.shelf.now x seen given asked left there y c.decide.result (log c.args.world.now) (log c.close_over.new.world) (log c.place.new.world) (log c.decide.new.world)
     (faults c.args.world.now) (faults c.close_over.new.world) (faults c.place.new.world) (faults c.decide.new.world)
     (record { is = drops.is seated; numbers = drops.numbers; rest = drops.rest })
-    (given_up seen given.state (gives.is seen_seated) gives.numbers gives.rest)
+    (given_up seen given.state (gives.is seen_seated) gives.numbers gives.astray gives.rest)
     (all_filled given asked.state fills.is fills.numbers fills.rest)
     (closes_on asking left (log c.args.world.now) (log c.close_over.new.world) (faults c.args.world.now) (faults c.close_over.new.world)
     (record { log_is = refl; links = closes.links; top = closes.top; seats = closes.seats; awake = closes.awake; room = closes.room; peers = closes.peers; rest = closes.rest }) closes.told closes.faults)

@@ -33,7 +33,7 @@ returns-clause-is g c =
           let numbers = left_numbers anew left c.leave_memory.ensures.is in
           let left_seated : AreSeated left = subst (λ (ns : List ℕ). AreInOrder ns) (sym (numbers ∙ c.regain.ensures.numbers)) seated in
           leaves_on x anew left given (top away) (log event.world) (log away) (faults event.world) (faults away) c.leave_memory.ensures.top (regains handled anew c.regain.ensures.is c.regain.ensures.numbers c.regain.ensures.rest)
-          c.leave_memory.ensures.is c.leave_memory.ensures.told c.leave_memory.ensures.faults (c.give_up_asks.ensures.is left_seated) c.give_up_asks.ensures.numbers c.give_up_asks.ensures.rest;
+          c.leave_memory.ensures.is c.leave_memory.ensures.told c.leave_memory.ensures.faults (c.give_up_asks.ensures.is left_seated) c.give_up_asks.ensures.numbers c.give_up_asks.ensures.astray c.give_up_asks.ensures.rest;
       leaves_shelf = refl;
       left_bounded = c.bounds-2.ensures;
       keeps = record { is = c.keep.ensures.is; rest = c.keep.ensures.rest; long = c.keep.ensures.long; links = refl; top = c.keep.ensures.top; count = c.keep.ensures.faults };

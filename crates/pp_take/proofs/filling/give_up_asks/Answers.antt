@@ -14,6 +14,7 @@ loop-ask-init c =
           let none : all ≡ all - 0 = omega (arith) in
           subst (λ (m : ℕ). Leads None m (parts old) (parts old)) none (leads_first all (parts old) rises (omega (arith)));
       numbers = refl;
+      astray = refl;
       rest = refl;
     }
 
@@ -33,6 +34,7 @@ loop-ask-preserved c =
           subst (λ (m : ℕ). Leads (Some number) m (parts old) (parts new)) one
           (leads_next c.loop-ask.after number (all - i) (parts old) (parts mid) (parts new) (c.loop-ask.invariant.is order rises) found (c.give_up_ask.ensures.is seated));
       numbers = c.give_up_ask.ensures.numbers ∙ c.loop-ask.invariant.numbers;
+      astray = c.give_up_ask.ensures.astray ∙ c.loop-ask.invariant.astray;
       rest = ap (λ (s : State). record s { seats = old.seats; flow = old.flow; cache = old.cache; refused = old.refused; is_astray = old.is_astray }) c.give_up_ask.ensures.rest ∙ c.loop-ask.invariant.rest;
     }
 
