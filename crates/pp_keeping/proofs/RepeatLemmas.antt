@@ -101,9 +101,9 @@ no_grown room x m last rest =
     let same : without_grown x.state.cache ≡ x.state.cache = ap (λ (o : List ObjectId). record x.state.cache { grown = o }) (sym (last ∙ append-nil m.grown ∙ ap (λ (n : Memory). n.grown) rest)) in
     (none, ap (λ (n : Memory). record x { state = with_memory n x.state }) (rest ∙ same))
 
-pub grown_kept : (room : ℕ) (x y : Keeping) (m : Memory) (id : ObjectId) → x.state.cache.grown ≡ m.grown ++ id ∷ [] → m ≡ without_grown x.state.cache → RepeatsOn (KeepsRun id room) 16385 true (record x { state = with_memory m x.state }) y → KeepsGrown room x y
+pub grown_kept : (room : ℕ) (x y : Keeping) (m : Memory) (id : ObjectId) → x.state.cache.grown ≡ m.grown ++ id ∷ [] → m ≡ without_grown x.state.cache → RepeatsOn (KeepsRun id room) 16386 true (record x { state = with_memory m x.state }) y → KeepsGrown room x y
 grown_kept room x y m id last rest runs = record {
   id = id;
   last = last ∙ ap (λ (n : Memory). n.grown ++ id ∷ []) rest;
-  runs = subst (λ (n : Memory). RepeatsOn (KeepsRun id room) 16385 true (record x { state = with_memory n x.state }) y) rest runs;
+  runs = subst (λ (n : Memory). RepeatsOn (KeepsRun id room) 16386 true (record x { state = with_memory n x.state }) y) rest runs;
 }

@@ -84,12 +84,12 @@ pub record KeepsRun (id : ObjectId) (room : ℕ) (x y : Keeping) (goes : Bool) :
 abbrev pub without_grown : Memory → Memory
 without_grown m = record m { grown = all_but_last m.grown }
 
--- the last of the instances to which bytes joined is forgotten, and kept run for run: the longest body has 16,384 of one chunk, and
--- behind them there is none
+-- the last of the instances to which bytes joined is forgotten, and kept run for run: a row has a draft, and the longest body 16,384
+-- of one chunk, and behind them there is none
 pub record KeepsGrown (room : ℕ) (x y : Keeping) : Type 0 where
   pub id : ObjectId
   pub last : x.state.cache.grown ≡ all_but_last x.state.cache.grown ++ id ∷ []
-  pub runs : RepeatsOn (KeepsRun id room) 16385 true (record x { state = with_memory (without_grown x.state.cache) x.state }) y
+  pub runs : RepeatsOn (KeepsRun id room) 16386 true (record x { state = with_memory (without_grown x.state.cache) x.state }) y
 
 abbrev pub GrownNext : ℕ → Keeping → Keeping → Bool → Type 0
 GrownNext room x y false = (x.state.cache.grown ≡ []) × (y ≡ x)

@@ -20,8 +20,8 @@ use pp_state::State;
 use pp_target::KEY_ROOM;
 use pp_world::{Name, Note, World};
 
-/// One more than the longest body has runs.
-const RUNS: u32 = 16_385;
+/// One more than the draft of a row and the runs of the longest body.
+const RUNS: u32 = 16_386;
 
 /// One more than the instances that grow in one turn.
 const GROWN: u32 = 17;
@@ -215,7 +215,7 @@ fn keep_runs<W: World>(
     ensures linked { IsLinked (W.log world.new) (W.top world.new) links.now }
     ensures holds { Told (W.log world.new) (Holds anything shelf.new) }
     ensures steady { GrowsSteadily (W.log world.old) (W.log world.new) }
-    ensures is { RepeatsOn (KeepsRun id (length desk.old.file.items)) 16385 true (keeping desk.old.state shelf.old (W.log world.old) (W.faults world.old)) (keeping desk.new.state shelf.new (W.log world.new) (W.faults world.new)) }
+    ensures is { RepeatsOn (KeepsRun id (length desk.old.file.items)) 16386 true (keeping desk.old.state shelf.old (W.log world.old) (W.faults world.old)) (keeping desk.new.state shelf.new (W.log world.new) (W.faults world.new)) }
     ensures rest { record desk.new { state = record desk.new.state { cache = desk.old.state.cache; has_lost_draft = desk.old.state.has_lost_draft; is_astray = desk.old.state.is_astray }; file = desk.old.file } ≡ desk.old }
     ensures long { length desk.new.file.items ≡ length desk.old.file.items }
     ensures top { W.top world.new ≡ W.top world.old }

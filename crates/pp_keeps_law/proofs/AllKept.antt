@@ -90,7 +90,7 @@ module _ (first : Turn) (room : ℕ) (long : 286720 ≤ room) where
     abbrev start : Kept
     start = record x { state = with_memory (without_grown x.state.cache) x.state }
 
-    begins : (number : ℕ → ℕ) (s : State) → StandsToKeep number x.state x.outside.shelf s → AreGrown first (suc n) true x.state x.outside.shelf → Going start.state step.id left 16385 true start.state x.outside.shelf
+    begins : (number : ℕ → ℕ) (s : State) → StandsToKeep number x.state x.outside.shelf s → AreGrown first (suc n) true x.state x.outside.shelf → Going start.state step.id left 16386 true start.state x.outside.shelf
     begins number s stands f = record {
       amid = record { same = record { run = refl; instances = refl; lives = refl; chunks = refl }; none = f.none; names = refl; among = λ other i found next. among_last other i found (next_same other i next) };
       goes_so = λ i found. record {
@@ -98,8 +98,8 @@ module _ (first : Turn) (room : ℕ) (long : 286720 ≤ room) where
             let some = some_run in
             let short : k.entry.version.length ≤ 67108864 = (all_found IsShort (is_of i.key) x.outside.shelf.rows k stands.short is).body in
             let same : i.version.length ≡ k.entry.version.length = ap (λ (v : Version). v.length) (same_version i.version k.entry.version version) in
-            omega (arith, short, same, far_enough 16385 x.state.run some);
-        new = λ m steps nothing open_name body. subst (λ (k : ℕ). i.version.length ≤ room_for k x.state.run) (let one : 16384 ≡ m = omega (arith, steps) in one) (omega (arith, body, far_enough 16384 x.state.run some_run));
+            omega (arith, short, same, far_enough 16386 x.state.run some);
+        new = λ m steps nothing open_name body. subst (λ (k : ℕ). i.version.length ≤ room_for k x.state.run) (let one : 16385 ≡ m = omega (arith, steps) in one) (omega (arith, body, far_enough 16385 x.state.run some_run));
       };
     }
       where
@@ -127,11 +127,11 @@ module _ (first : Turn) (room : ℕ) (long : 286720 ≤ room) where
 
     grown_adds : AddsTo x y (LeadsWith (AreGrown first (suc n) true x.state x.outside.shelf) (AreGrown first n true y.state y.outside.shelf) x y)
     grown_adds =
-        adds_as x.outside.faults y.outside.faults (LeadsWith (Going start.state step.id left 16385 true start.state x.outside.shelf) (Ended start.state step.id left y.state y.outside.shelf) start y) (LeadsWith (AreGrown first (suc n) true x.state x.outside.shelf) (AreGrown first n true y.state y.outside.shelf) x y)
+        adds_as x.outside.faults y.outside.faults (LeadsWith (Going start.state step.id left 16386 true start.state x.outside.shelf) (Ended start.state step.id left y.state y.outside.shelf) start y) (LeadsWith (AreGrown first (suc n) true x.state x.outside.shelf) (AreGrown first n true y.state y.outside.shelf) x y)
         (λ hs leads number s stands f.
         moves_map (HasBoth number y s (Ended start.state step.id left y.state y.outside.shelf)) (HasBoth number y s (AreGrown first n true y.state y.outside.shelf)) (λ t b. record { kept = b.kept; knows = ends f b.knows }) hs s
         (leads number s (less_grown number x.state x.outside.shelf s left stands) (begins number s stands f)))
-        (all_runs start.state step.id left room 16385 true start y long step.runs)
+        (all_runs start.state step.id left room 16386 true start y long step.runs)
 
   -- ---- each of them
 

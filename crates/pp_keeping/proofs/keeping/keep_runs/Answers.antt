@@ -12,7 +12,7 @@ loop-run-init g c = record {
   linked = c.requires.linked;
   holds = c.requires.holds;
   steady = steady_none _;
-  is = none_yet ends_astray (KeepsRun c.args.id (length c.args.desk.now.file.items)) 16385 (keeping c.args.desk.now.state c.args.shelf.now (g.W.Logged.log c.args.world.now) (g.W.Logged.faults c.args.world.now));
+  is = none_yet ends_astray (KeepsRun c.args.id (length c.args.desk.now.file.items)) 16386 (keeping c.args.desk.now.state c.args.shelf.now (g.W.Logged.log c.args.world.now) (g.W.Logged.faults c.args.world.now));
   rest = refl;
   long = refl;
   top = refl;
@@ -34,7 +34,7 @@ loop-run-preserved g c =
       holds = step.holds;
       steady = steady_then before.steady step.steady;
       is =
-          one_more ends_astray (KeepsRun c.args.id (length d0.file.items)) 16385 mid._run (keeping d0.state c.args.shelf.now (log c.args.world.now) (faults c.args.world.now)) (keeping mid.desk.state mid.shelf (log mid.world) (faults mid.world))
+          one_more ends_astray (KeepsRun c.args.id (length d0.file.items)) 16386 mid._run (keeping d0.state c.args.shelf.now (log c.args.world.now) (faults c.args.world.now)) (keeping mid.desk.state mid.shelf (log mid.world) (faults mid.world))
           (keeping new.desk.state new.shelf (log new.world) (faults new.world)) mid.goes c.keep_run-goes.result c.loop-run-test.true goes before.is (subst (λ (n : ℕ). KeepsRun c.args.id n (keeping mid.desk.state mid.shelf (log mid.world) (faults mid.world)) (keeping new.desk.state new.shelf (log new.world) (faults new.world)) c.keep_run-goes.result) before.long step.is);
       rest = ap (λ (d : Desk). record d { state = record d.state { cache = d0.state.cache; has_lost_draft = d0.state.has_lost_draft; is_astray = d0.state.is_astray }; file = d0.file }) step.rest ∙ before.rest;
       long = step.long ∙ before.long;
@@ -49,9 +49,9 @@ returns-clause-is g c =
     let mid = c.loop-run in
     let x = keeping c.args.desk.now.state c.args.shelf.now (log c.args.world.now) (faults c.args.world.now) in
     let y = keeping mid.desk.state mid.shelf (log mid.world) (faults mid.world) in
-    subst (λ (s : State). RepeatsOn (KeepsRun c.args.id (length c.args.desk.now.file.items)) 16385 true x (record y { state = s })) (sym c.note_more.ensures)
-    (subst (λ (z : Keeping). RepeatsOn (KeepsRun c.args.id (length c.args.desk.now.file.items)) 16385 true x z) (ends_noted mid.goes y)
-    (ends_late ends_astray (KeepsRun c.args.id (length c.args.desk.now.file.items)) 16385 mid._run x y mid.goes (omega (arith, c.loop-run-test.false)) mid.invariant.is))
+    subst (λ (s : State). RepeatsOn (KeepsRun c.args.id (length c.args.desk.now.file.items)) 16386 true x (record y { state = s })) (sym c.note_more.ensures)
+    (subst (λ (z : Keeping). RepeatsOn (KeepsRun c.args.id (length c.args.desk.now.file.items)) 16386 true x z) (ends_noted mid.goes y)
+    (ends_late ends_astray (KeepsRun c.args.id (length c.args.desk.now.file.items)) 16386 mid._run x y mid.goes (omega (arith, c.loop-run-test.false)) mid.invariant.is))
 
 pub returns-clause-rest : goal.returns-clause-rest
 returns-clause-rest g c =
@@ -65,5 +65,5 @@ returns-then-not-goes-clause-is g c =
     let faults = g.W.Logged.faults in
     let mid = c.loop-run in
     let none : mid.goes ≡ false = grind (arith, common_steps) in
-    ends_early ends_astray (KeepsRun c.args.id (length c.args.desk.now.file.items)) 16385 mid._run (keeping c.args.desk.now.state c.args.shelf.now (log c.args.world.now) (faults c.args.world.now)) (keeping mid.desk.state mid.shelf (log mid.world) (faults mid.world))
+    ends_early ends_astray (KeepsRun c.args.id (length c.args.desk.now.file.items)) 16386 mid._run (keeping c.args.desk.now.state c.args.shelf.now (log c.args.world.now) (faults c.args.world.now)) (keeping mid.desk.state mid.shelf (log mid.world) (faults mid.world))
     mid.goes refl none mid.invariant.is
