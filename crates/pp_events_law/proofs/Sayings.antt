@@ -38,7 +38,7 @@ module _ (number : ℕ → ℕ) (id i : ℕ) (x y : Turning) (seat : Seat) (s : 
   by_took (Some (Ok n)) some told within is = taken n within told is
   by_took (Some (Err fault)) some told within is = fails number id i x y seat s stands ready sound may bounded says fault told is
 
-  its : IsWritten i seat x.moving.links (sides x.moving.desk) next x.log y.log
+  abbrev its : IsWritten i seat x.moving.links (sides x.moving.desk) next x.log y.log
   its = wrote number id i x y seat s stands ready sound may bounded says
 
   written : HasLedReady number x y s
