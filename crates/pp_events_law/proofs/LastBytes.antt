@@ -2,9 +2,8 @@
 --
 -- The program ends the reply where its last bytes are told, and the law behind them. So both start here from the client as it was before them:
 -- of what they change the next request reads nothing, and of one that is closing nothing is shown.
-use Rattle.std.proofs.Common.{◌≡◌, ◌≤◌, refl, sym, subst, ap, ap₂, ◌∙◌, ℕ, ◌-◌, Bool, true, false, not, ◌&&◌, find, List, [], ◌∷◌, Option, Some, None}
+use Rattle.std.proofs.Common.{◌≡◌, ◌≤◌, refl, sym, subst, ap, ap₂, ◌∙◌, ℕ, ◌-◌, Bool, true, false, not, ◌&&◌, find, List, [], ◌∷◌, Some}
 use Rattle.std.specs.Prelude.{count_by, slice_get, slice_set}
-use Rattle.pp_cache.specs.Memory.{Memory}
 use Rattle.pp_cache_law.proofs.Numbers.{some_is}
 use Rattle.pp_client.specs.Clients.{Client as ClientSide}
 use Rattle.pp_client.specs.Replies.{Reply as Said, ended as ended_reply, has_begun as is_said_to, is_said, left_next, said}
@@ -61,9 +60,8 @@ use Rattle.pp_seats_law.specs.Replies.{ShowsBegin, ShowsStage}
 use Rattle.pp_seats_law.specs.Saying.{IsNext}
 use Rattle.pp_seats_law.specs.Seats.{ShowsOpen, ShowsSeat}
 use Rattle.pp_state.specs.Ends.{AreInOrder, Parts, numbers_of, on_seat, source_of}
-use Rattle.pp_state.specs.Hearing.{is_said as is_said_whole, is_said_in, is_under_way, with_end}
+use Rattle.pp_state.specs.Hearing.{is_said_in, is_under_way, with_end}
 use Rattle.pp_states_law.proofs.Changed.{changes}
-use Rattle.pp_steps_law.proofs.Kept.{GoesThrough}
 use Rattle.pp_steps_law.proofs.Places.{numbers_set}
 use Rattle.pp_steps_law.specs.Steps.{ShowsSteps, whole}
 use Rattle.pp_turns_law.specs.Turns.{IsFollowing}

@@ -1,6 +1,6 @@
 -- Where the reply of one client ends, and of no other, what is done to all that are looked at is what is done to it, in the program and in the
 -- law; and behind it no reply is over.
-use Rattle.std.proofs.Common.{◌≡◌, refl, sym, subst, ap, ap₂, ◌∙◌, ℕ, suc, ◌+◌, ◌<◌, Bool, true, false, not, ◌==◌, ◌&&◌, ◌||◌, find, map, List, [], ◌∷◌, Option, Some, None, arith}
+use Rattle.std.proofs.Common.{◌≡◌, refl, sym, subst, ap, ap₂, ◌∙◌, ℕ, ◌+◌, ◌<◌, Bool, true, false, not, ◌==◌, ◌&&◌, ◌||◌, find, map, List, [], ◌∷◌, Option, Some, None, arith}
 use Rattle.std.specs.Prelude.{slice_get, slice_set}
 use Rattle.pp_cache_law.proofs.Numbers.{is_same, same_test, some_is}
 use Rattle.pp_client.specs.Clients.{said_by as side_said}
@@ -9,7 +9,7 @@ use Rattle.pp_clients_obey.proofs.Walks.{Changes, end_none, found_in, is_among, 
 use Rattle.pp_closings_law.specs.Sides.{ShowsSides}
 use Rattle.pp_decides_law.proofs.Sitting.{is_at, on_seat_is}
 use Rattle.pp_desk.specs.Closings.{Sides, with_parts}
-use Rattle.pp_desk.specs.Replies.{EndsReplies, EndsSaid, EndsSaidOf, EndsWhere}
+use Rattle.pp_desk.specs.Replies.{EndsSaid, EndsSaidOf, EndsWhere}
 use Rattle.pp_endings_law.proofs.Closes.{set_itself}
 use Rattle.pp_endings_law.proofs.Kept.{KeepsNumber, find_other}
 use Rattle.pp_endings_law.proofs.Left.{with_seats}

@@ -1,8 +1,7 @@
 -- The last bytes of a reply were said to a client: the turn stands behind what ends with them.
-use Rattle.std.proofs.Common.{◌≡◌, ◌≤◌, refl, sym, subst, ap, ◌∙◌, ℕ, true, false, ◌==◌, find, length, length-take-le, take, List, [], ◌∷◌, Some, Ok}
-use Rattle.std.specs.Prelude.{slice_get, slice_set}
+use Rattle.std.proofs.Common.{◌≡◌, ◌≤◌, refl, sym, subst, ap, ◌∙◌, ℕ, true, false, find, length, length-take-le, take, List, [], ◌∷◌, Some, Ok}
+use Rattle.std.specs.Prelude.{slice_set}
 use Rattle.pp_cache.specs.Bounds.{IsBounded}
-use Rattle.pp_cache.specs.Memory.{Memory}
 use Rattle.pp_client.specs.Replies.{is_said, left_next, said}
 use Rattle.pp_clients_obey.proofs.Ends.{request_there}
 use Rattle.pp_clients_obey.proofs.Hears.{leads_on}
@@ -18,7 +17,7 @@ use Rattle.pp_desk.specs.Replies.{EndsReplies, EndsSaidOf}
 use Rattle.pp_desk.specs.declared.desk.Desk.{Desk}
 use Rattle.pp_endings_law.proofs.Left.{with_seats}
 use Rattle.pp_endings_law.proofs.Walk.{IsButFor, IsGood}
-use Rattle.pp_endings_law.specs.Replies.{HasNext, MayGoOn}
+use Rattle.pp_endings_law.specs.Replies.{MayGoOn}
 use Rattle.pp_events_law.proofs.Beside.{IsBeside, ends_of}
 use Rattle.pp_events_law.proofs.HandledBehind.{behind_handled, behind_next}
 use Rattle.pp_events_law.proofs.Kept.{said_through}
@@ -31,7 +30,6 @@ use Rattle.pp_events_law.proofs.Used.{IsChunks, same_instances}
 use Rattle.pp_events_law.specs.Ready.{HasLedReady}
 use Rattle.pp_events_law.specs.Says.{MaySay}
 use Rattle.pp_events_law.specs.Stands.{AreReadyAt, IsHandled, StandsAtEvent}
-use Rattle.pp_flow_law.specs.Tables.{none_leaves}
 use Rattle.pp_law.specs.After.{paid}
 use Rattle.pp_law.specs.Connections.{is_client, on_client}
 use Rattle.pp_law.specs.Lists.{Bytes}
@@ -43,12 +41,11 @@ use Rattle.pp_obeys.proofs.Happenings.{goes_said}
 use Rattle.pp_obeys.specs.Moves.{Leads}
 use Rattle.pp_proxy.specs.Handling.{SaysAt}
 use Rattle.pp_proxy.specs.Moving.{Turning}
-use Rattle.pp_seats.specs.Follows.{answer_in}
 use Rattle.pp_seats.specs.Said.{used_by}
 use Rattle.pp_seats.specs.Seats.{told_by}
 use Rattle.pp_seats.specs.declared.seat.Seat.{Seat}
 use Rattle.pp_seats_law.specs.Seats.{ShowsOpen, ShowsSeat}
-use Rattle.pp_state.specs.Ends.{Parts, parts}
+use Rattle.pp_state.specs.Ends.{parts}
 use Rattle.pp_state.specs.declared.state.State.{State as Turn}
 use Rattle.pp_talk.specs.Talking.{offered, told_at, used_chunks}
 use Rattle.pp_world.specs.Log.{AppendsAll}

@@ -1,5 +1,5 @@
 -- A client is written to, whatever of its reply was taken: the turn stands behind it.
-use Rattle.std.proofs.Common.{◌≡◌, ◌≤◌, refl, ℕ, Bool, true, false, is_some, length, Option, Some, None, Ok, Err}
+use Rattle.std.proofs.Common.{◌≡◌, ◌≤◌, refl, ℕ, Bool, true, false, is_some, length, Some, None, Ok, Err}
 use Rattle.std.specs.Prelude.{IfOk, IfSome}
 use Rattle.pp_cache.specs.Bounds.{IsBounded}
 use Rattle.pp_client.specs.Replies.{is_said, said}
