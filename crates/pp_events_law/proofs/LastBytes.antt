@@ -2,21 +2,16 @@
 --
 -- The program ends the reply where its last bytes are told, and the law behind them. So both start here from the client as it was before them:
 -- of what they change the next request reads nothing, and of one that is closing nothing is shown.
-use Rattle.std.proofs.Common.{◌≡◌, ◌≤◌, refl, sym, subst, ap, ap₂, ◌∙◌, ℕ, ◌-◌, Bool, true, false, not, ◌&&◌, find, List, [], ◌∷◌, Some}
+use Rattle.std.proofs.Common.{◌≡◌, ◌≤◌, refl, sym, subst, ap, ap₂, ◌∙◌, ℕ, ◌-◌, Bool, true, false, not, ◌&&◌, find, List, [], Some}
 use Rattle.std.specs.Prelude.{count_by, slice_get, slice_set}
 use Rattle.pp_cache_law.proofs.Numbers.{some_is}
 use Rattle.pp_client.specs.Clients.{Client as ClientSide}
-use Rattle.pp_client.specs.Replies.{Reply as Said, ended as ended_reply, has_begun as is_said_to, is_said, left_next, said}
+use Rattle.pp_client.specs.Replies.{ended as ended_reply, has_begun as is_said_to, is_said, left_next, said}
 use Rattle.pp_client.specs.Requests.{answered}
-use Rattle.pp_client.specs.declared.interim.Interim.{Interim}
-use Rattle.pp_client.specs.declared.reply.Begin.{Begin}
-use Rattle.pp_client.specs.declared.reply.Begin.TheVariants.{Page, Instance as OfInstance, Passed as IsPassed}
-use Rattle.pp_client.specs.declared.reply.Stage.{Stage as SaidStage}
-use Rattle.pp_client.specs.declared.reply.Stage.TheVariants.{Due, Begun}
-use Rattle.pp_clients_obey.proofs.Walks.{change_twice, end_one, found_in}
+use Rattle.pp_clients_obey.proofs.Walks.{end_one, found_in}
 use Rattle.pp_closings_law.proofs.Leaving.{leaves_client}
 use Rattle.pp_closings_law.proofs.Own.{its_number as exchange_number}
-use Rattle.pp_closings_law.proofs.Quit.{closing_client, quit, quit_number, same_client}
+use Rattle.pp_closings_law.proofs.Quit.{quit, quit_number, same_client}
 use Rattle.pp_closings_law.specs.Clients.{MayBeClosed}
 use Rattle.pp_closings_law.specs.Sides.{ShowsSides}
 use Rattle.pp_decides_law.proofs.Changed.{get_set, set_set}
@@ -26,7 +21,7 @@ use Rattle.pp_desk.specs.Closings.{Sides, closed_client, with_parts}
 use Rattle.pp_desk.specs.Replies.{EndsBy, EndsSaidOf, EndsWhere, account_renewed, closes_in}
 use Rattle.pp_endings_law.proofs.Closes.{follows_there, set_itself}
 use Rattle.pp_endings_law.proofs.Kept.{KeepsNumber, IsOne, ends_still, leaves_still, other_here}
-use Rattle.pp_endings_law.proofs.Law.{Steps, WasAsk, close_steps, next_state}
+use Rattle.pp_endings_law.proofs.Law.{Steps, close_steps, next_state}
 use Rattle.pp_endings_law.proofs.Left.{IsBeside, IsShut, is_shut, shows_beside, shut_beside, with_seats}
 use Rattle.pp_endings_law.proofs.Next.{IsReadAs, goes_next}
 use Rattle.pp_endings_law.proofs.Nothing.{unsaid_end}
@@ -34,29 +29,22 @@ use Rattle.pp_endings_law.proofs.Walk.{IsGood, IsStepped}
 use Rattle.pp_endings_law.specs.Replies.{HasNext, MayGoOn}
 use Rattle.pp_events_law.proofs.Heard.{client_may}
 use Rattle.pp_events_law.proofs.Kept.{next_said, said_follows, said_through}
+use Rattle.pp_events_law.proofs.LastSaid.{closed_behind, closed_steps, ends_as, next_same, renewed_same, said_number, sweep_first, was_begun}
 use Rattle.pp_flow_law.proofs.Entries.{none_some}
 use Rattle.pp_flow_law.specs.Tables.{none_leaves}
 use Rattle.pp_law.specs.Closing.{close_client, forsake, is_of}
 use Rattle.pp_law.specs.Connections.{is_client, on_client}
-use Rattle.pp_law.specs.Lists.{Bytes, change, without}
-use Rattle.pp_law.specs.Replies.{end_reply, end_said, is_said as is_over, next_request, said_by}
-use Rattle.pp_law.specs.State.{State, Client, Reply, Stage, Undecided, Waiting, Passing, Answering}
-use Rattle.pp_law.specs.Table.{is_left_over, swept}
-use Rattle.pp_seats.specs.Accounts.{anew, said as said_account}
-use Rattle.pp_seats.specs.Courses.{has_begun, has_begun_in}
+use Rattle.pp_law.specs.Lists.{Bytes, change}
+use Rattle.pp_law.specs.Replies.{end_said, is_said as is_over, next_request, said_by}
+use Rattle.pp_law.specs.State.{State, Client}
+use Rattle.pp_law.specs.Table.{swept}
+use Rattle.pp_seats.specs.Accounts.{said as said_account}
 use Rattle.pp_seats.specs.Follows.{answer_in}
 use Rattle.pp_seats.specs.Seats.{IsRead, at_next_request, told_by}
-use Rattle.pp_seats.specs.declared.account.Account.{Account}
-use Rattle.pp_seats.specs.declared.account.Account.TheVariants.{Unkept, Due as IsDue, Begun as HasBegun}
-use Rattle.pp_pass.specs.Pipe.{Pipe}
-use Rattle.pp_seats.specs.declared.seat.Answer.{Answer}
 use Rattle.pp_seats.specs.declared.seat.Seat.{Seat}
-use Rattle.pp_seats.specs.declared.seat.Stage.{Stage as SeatStage}
-use Rattle.pp_seats.specs.declared.seat.Stage.TheVariants.{Undecided as IsUndecided, Waiting as IsWaiting, Passing as IsPassing, Answering as IsAnswering}
-use Rattle.pp_seats_law.proofs.SaidOn.{IsToldBy, open_told, parts, told_with}
+use Rattle.pp_seats_law.proofs.SaidOn.{IsToldBy, open_told, told_with}
 use Rattle.pp_seats_law.proofs.SaidWhole.{endings, ends_same}
 use Rattle.pp_seats_law.specs.Clients.{IsAt}
-use Rattle.pp_seats_law.specs.Replies.{ShowsBegin, ShowsStage}
 use Rattle.pp_seats_law.specs.Saying.{IsNext}
 use Rattle.pp_seats_law.specs.Seats.{ShowsOpen, ShowsSeat}
 use Rattle.pp_state.specs.Ends.{AreInOrder, Parts, numbers_of, on_seat, source_of}
@@ -65,86 +53,6 @@ use Rattle.pp_states_law.proofs.Changed.{changes}
 use Rattle.pp_steps_law.proofs.Places.{numbers_set}
 use Rattle.pp_steps_law.specs.Steps.{ShowsSteps, whole}
 use Rattle.pp_turns_law.specs.Turns.{IsFollowing}
-
--- ---- of the law
-
-change_as : (n : ℕ) (f g : Client → Client) → ((c : Client) → f c ≡ g c) → (cs : List Client) → change (is_client n) f cs ≡ change (is_client n) g cs
-change_as n f g same [] = refl
-change_as n f g same (c ∷ cs) = ap₂ (λ (d : Client) (ds : List Client). d ∷ ds) (by (is_client n c)) (change_as n f g same cs)
-  where
-    by : (b : Bool) → (elim b as (λ t. Client) [ true ↦ f c | false ↦ c ]) ≡ (elim b as (λ t. Client) [ true ↦ g c | false ↦ c ])
-    by true = same c
-    by false = refl
-
-on_twice : (n : ℕ) (f g : Client → Client) → KeepsNumber f → (s : State) → on_client n g (on_client n f s) ≡ on_client n (λ c. g (f c)) s
-unfolding on_client
-on_twice n f g keeps s = ap (λ (cs : List Client). let t : State = record s { clients = cs } in t) (change_twice f g keeps n s.clients)
-
-on_as : (n : ℕ) (f g : Client → Client) → ((c : Client) → f c ≡ g c) → (s : State) → on_client n f s ≡ on_client n g s
-unfolding on_client
-on_as n f g same s = ap (λ (cs : List Client). let t : State = record s { clients = cs } in t) (change_as n f g same s.clients)
-
-said_number : (k : ℕ) → KeepsNumber (said_by k)
-said_number k = (said_through k).number
-
--- the next request stands as it would before them
-next_same : (k n : ℕ) (s : State) → next_state n (on_client n (said_by k) s) ≡ next_state n s
-next_same k n s =
-    ap (λ (t : State). forsake (is_of n) (swept t)) (on_twice n (said_by k) next_request (said_number k) s ∙ on_as n (λ c. next_request (said_by k c)) next_request (next_said k) s)
-
-sweep_first : (n : ℕ) (s : State) → swept (forsake (is_of n) (on_client n next_request s)) ≡ next_state n s
-unfolding forsake swept on_client
-sweep_first n s = refl
-
-ends_as : (c : Client) (s : State) (b : Bool) → c.closes ≡ b → end_reply c s ≡ elim b as (λ t. State) [ true ↦ close_client c.number false s | false ↦ swept (forsake (is_of c.number) (on_client c.number next_request s)) ]
-unfolding end_reply
-ends_as c s b is = ap (λ (b : Bool). elim b as (λ t. State) [ true ↦ close_client c.number false s | false ↦ swept (forsake (is_of c.number) (on_client c.number next_request s)) ]) is
-
--- it is closed behind them
-abbrev pub closed_behind : ℕ → Client → Client
-closed_behind k c = closing_client false (said_by k c)
-
-closed_steps : (k n : ℕ) (s t : State) → Steps n (closing_client false) (on_client n (said_by k) s) t → Steps n (closed_behind k) s t
-unfolding on_client
-closed_steps k n s t steps = record {
-  clients = steps.clients ∙ change_twice (said_by k) (closing_client false) (said_number k) n s.clients;
-  instances = steps.instances ∙ ap (λ (u : State). without (is_left_over u) s.instances) (on_twice n (said_by k) (closing_client false) (said_number k) s);
-  exchange = λ m d there. let was : WasAsk (on_client n (said_by k) s) n m d = steps.exchange m d there in record { before = was.before; there = was.there; place = was.place; asked = was.asked; asker = was.asker };
-  once = steps.once;
-  rest = steps.rest;
-}
-
--- ---- of the program
-
-begin_begun : (b : Begin) (text : Bytes) (a : Answer) (r : Reply) → ShowsBegin b text a r → a.has_begun ≡ true
-begin_begun Page text a r shows = shows.0.begun
-begin_begun (OfInstance id next to) text a r shows = shows.0.begun
-begin_begun IsPassed text a r shows = shows.0.begun
-
--- a reply that is said whole was begun
-says_begun : (number : ℕ → ℕ) (i : Interim) (stage : SaidStage) (text : Bytes) (pipe : Pipe) (at : SeatStage) (other : Stage) → ShowsStage number (parts i stage text pipe) at other → is_said (parts i stage text pipe) ≡ true → has_begun_in (answer_in at) ≡ true
-says_begun number i Due text pipe at other shows all = absurd (cc all)
-says_begun number i (Begun b) text pipe IsUndecided Undecided shows all = absurd (cc (shows.0))
-says_begun number i (Begun b) text pipe IsWaiting Waiting shows all = absurd (cc shows)
-says_begun number i (Begun b) text pipe IsPassing Passing shows all = absurd (cc shows)
-says_begun number i (Begun b) text pipe (IsAnswering a) (Answering r) shows all = begin_begun b text a r shows.says
-says_begun number i (Begun b) text pipe at other shows all = absurd shows
-
-pub was_begun : (number : ℕ → ℕ) (name : Bytes) (k : ℕ) (seat : Seat) (c : Client) → ShowsOpen number name [] seat c → k ≤ left_next seat.client.reply → is_said (said k seat.client.reply) ≡ true → has_begun seat ≡ true
-was_begun number name k seat c shows few all =
-    let r : Said = said k seat.client.reply in
-    let told : IsToldBy number k name [] seat c (said_account k seat.account) r = open_told number k name [] seat c (said_account k seat.account) shows few in
-    says_begun number r.interim r.stage r.text r.pipe seat.stage (said_by k c).stage told.shows.stage all
-
-accounts_same : (a : Account) → anew (anew a) ≡ anew a
-accounts_same Unkept = refl
-accounts_same (IsDue due) = refl
-accounts_same (HasBegun told) = refl
-
-renewed_same : (seat : Seat) → at_next_request (account_renewed seat) ≡ at_next_request seat
-renewed_same seat = ap (λ (a : Account). let x : Seat = record (at_next_request seat) { account = a } in x) (accounts_same seat.account)
-
--- ---- both
 
 -- behind the step of that client; what is left of it in the law is not over
 pub record IsLast (number : ℕ → ℕ) (name : Bytes) (i k : ℕ) (x z : Sides) (s : State) (n : ℕ) (c : Client) (t : State) : Type 0 where

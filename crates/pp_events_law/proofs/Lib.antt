@@ -17,6 +17,7 @@ pub mod Heard
 pub mod Hears
 pub mod Kept
 pub mod LastBytes
+pub mod LastSaid
 pub mod Left
 pub mod Newcomer
 pub mod Quiet

@@ -21,7 +21,8 @@ use Rattle.pp_endings_law.specs.Replies.{MayGoOn}
 use Rattle.pp_events_law.proofs.Beside.{IsBeside, ends_of}
 use Rattle.pp_events_law.proofs.HandledBehind.{behind_handled, behind_next}
 use Rattle.pp_events_law.proofs.Kept.{said_through}
-use Rattle.pp_events_law.proofs.LastBytes.{HasLast, IsLast, last_bytes, was_begun}
+use Rattle.pp_events_law.proofs.LastBytes.{HasLast, IsLast, last_bytes}
+use Rattle.pp_events_law.proofs.LastSaid.{was_begun}
 use Rattle.pp_events_law.proofs.Quiet.{AreSilent, EndsOne, QuietBut, all_quiet, all_silent, ends_there, none_said, one_ends}
 use Rattle.pp_events_law.proofs.Rests.{all_rest}
 use Rattle.pp_events_law.proofs.Standing.{may_as}
