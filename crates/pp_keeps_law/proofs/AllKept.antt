@@ -1,7 +1,7 @@
 -- Each instance that grew, from the last; and all that is taken away and kept in a turn.
 use Rattle.std.proofs.Common.{◌≡◌, refl, sym, subst, ap, ◌∙◌, ◌≤◌, ℕ, zero, suc, ◌*◌, Bool, true, false, List, [], ◌∷◌, ◌++◌, length, length-append, Some, arith}
 use Rattle.std.specs.List.{list_any}
-use Rattle.pp_keeping.specs.Keeping.{GrownNext, KeepsGrown, Keeping as Kept, RepeatsOn, RepeatsTo, all_but_last, ends_astray, with_memory, without_grown}
+use Rattle.pp_keeping.specs.Keeping.{GrownNext, KeepsGrown, Keeping as Kept, RepeatsOn, RepeatsTo, all_but_last, with_memory, without_grown}
 use Rattle.pp_law.specs.State.{State}
 use Rattle.pp_law.specs.Store.{run_len}
 use Rattle.pp_objects.specs.Instances.{Instance, is_same_id}

@@ -305,11 +305,10 @@ module _ (number : ℕ → ℕ) (l : Leaving) (peers : List Peer) (shelf : KeptM
   nothing b key q r same is_q none =
       subst (λ (u : State). IsAmidRead l peers shelf q u) (sym (law (row s key) refl)) (subst (λ (y : Turn). IsAmidRead l peers shelf y s) (sym all) (record { number = number; shows = astray_shows b }))
     where
-      abbrev p_so : Turn
-      p_so = record p { is_astray = b }
-
-      all : q ≡ p_so
-      all = is_q ∙ ap (λ (y : Turn). with_room_if_over y) same ∙ ap (λ (c : Bool). elim c as (λ d. Turn) [ true ↦ with_room p_so | false ↦ p_so ]) few_now
+      all : q ≡ record p { is_astray = b }
+      all =
+          is_q ∙ ap (λ (y : Turn). with_room_if_over y) same
+          ∙ ap (λ (c : Bool). elim c as (λ d. Turn) [ true ↦ with_room (record p { is_astray = b }) | false ↦ record p { is_astray = b } ]) few_now
 
       none_by : (o : Option Entry) → AreBoth IsKeptAs None o → o ≡ None
       none_by None both = refl

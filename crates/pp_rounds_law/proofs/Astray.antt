@@ -1,5 +1,5 @@
 -- A life that went astray stays so, as what is due is taken, as exchanges get their places, and over a round.
-use Rattle.std.proofs.Common.{◌≡◌, refl, sym, subst, ap, ◌∙◌, inl, inr, ℕ, zero, suc, Bool, true, false, ◌==◌, cond, List, [], ◌∷◌, ◌++◌, Option, Some, None}
+use Rattle.std.proofs.Common.{◌≡◌, refl, sym, ap, ◌∙◌, inl, inr, ℕ, zero, suc, Bool, true, false, ◌==◌, cond, List, [], ◌∷◌, ◌++◌, Option, Some, None}
 use Rattle.std.specs.Prelude.{option_map}
 use Rattle.pp_desk.specs.Closings.{Sides, closed_client, closing_at, left_at, left_by_errand, left_own, sides, with_parts, withdrawn}
 use Rattle.pp_desk.specs.declared.desk.Desk.{Desk}
@@ -15,7 +15,6 @@ use Rattle.pp_objects.specs.declared.id.ObjectId.{ObjectId}
 use Rattle.pp_proxy.specs.Closing.{ClosesOver}
 use Rattle.pp_proxy.specs.Deciding.{Decides, TakesOne}
 use Rattle.pp_proxy.specs.Moving.{Moving, with_desk, with_state}
-use Rattle.pp_proxy.specs.Rounds.{GoesRound}
 use Rattle.pp_proxy.specs.Taking.{TakesDueOf, who_at}
 use Rattle.pp_seats.specs.Decided.{with_interim}
 use Rattle.pp_seats.specs.declared.due.Due.{Due}
@@ -26,7 +25,7 @@ use Rattle.pp_state.specs.declared.state.State.{State as Turn}
 use Rattle.pp_steps.specs.Evicting.{given_way, row_in_way, without_row}
 use Rattle.pp_store.specs.Kept.{KeptMap}
 use Rattle.pp_turns_law.specs.Firsts.{FirstDueInMemory, HasRowInMemory, IsDueInMemory}
-use Rattle.pp_take.specs.Deciding.{Ask, Does, Takes, accounted, afforded, aim_for, answered_at, ask_at, asked_by, asked_with, exchange_begun, followed_at, followed_by, following, is_pass, is_served_by, left_all, left_if_useless, left_useless, marked_at, marked_for, origin_asked, relayed, row_at, row_followed}
+use Rattle.pp_take.specs.Deciding.{Ask, Does, accounted, afforded, aim_for, answered_at, ask_at, asked_by, asked_with, exchange_begun, followed_at, followed_by, following, is_pass, is_served_by, left_all, left_if_useless, left_useless, marked_at, marked_for, origin_asked, row_at, row_followed}
 use Rattle.pp_world.specs.Log.{Log}
 use Rattle.pp_world.specs.declared.note.Decision.{Decision}
 use Rattle.pp_world.specs.declared.note.Decision.TheVariants.{Refuse, Hit, Part, Head, NotModified, Unsatisfiable, Relay, Validate, Fetch, Pass}
@@ -90,16 +89,16 @@ useless_stays i p = by (exchange_of i p)
     by None is = is
     by (Some e) is = at (is_served_by i e.number p) is
 
+by_row_stays : (i : ℕ) (d : Decision) (span : ℕ × ℕ) (id : ObjectId) (p : Parts) → StaySo p (followed_by i d span id p)
+unfolding followed_by
+by_row_stays i d span id p is = let q : Parts = following id (on_seat i with_interim p) in useless_stays i (answered_at i d (Some id) span q) (answered_stays i d (Some id) span q is)
+
 followed_stays : (i : ℕ) (d : Decision) (span : ℕ × ℕ) (p : Parts) → StaySo p (followed_at i d span p)
 followed_stays i d span p = by (row_at i p)
   where
-    one : (id : ObjectId) → StaySo p (followed_by i d span id p)
-    unfolding followed_by
-    one id is = let q : Parts = following id (on_seat i with_interim p) in useless_stays i (answered_at i d (Some id) span q) (answered_stays i d (Some id) span q is)
-
     by : (o : Option Instance) → StaySo p (row_followed i d span o p)
     by None is = is
-    by (Some x) is = one (id_of x) is
+    by (Some x) is = by_row_stays i d span (id_of x) p is
 
 does_stays : (name : List ℕ) (i : ℕ) (d : Decision) (p q : Parts) → Does name i d p q → StaySo p q
 does_stays name i (Refuse status) p q does is = ap (λ (r : Parts). r.is_astray) does.rest ∙ all_left_stays i p is
@@ -131,7 +130,7 @@ way_stays d i t = by (row_in_way d i t)
 
 own_stays : (i : ℕ) (o : Option Exchange) (x : Sides) → StaySo x.parts (left_own i o x).parts
 own_stays i None x is = is
-own_stays i (Some e) x = by (option_map (λ (y : Entry). y.errand) (entry_of e.number x.parts.flow))
+own_stays i (Some e) x was = by (option_map (λ (y : Entry). y.errand) (entry_of e.number x.parts.flow)) was
   where
     nobodys : (o : Option Exchange) → StaySo x.parts (elim o as (λ t. Parts) [ None ↦ x.parts | Some d ↦ left d.number x.parts ])
     nobodys None is = is

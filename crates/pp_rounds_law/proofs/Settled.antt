@@ -1,5 +1,5 @@
 -- Before Stop a turn decides, goes round and ends.
-use Rattle.std.proofs.Common.{◌≡◌, ◌⊎◌, inl, inr, refl, sym, subst, ◌∙◌, Bool, true, false, List, ◌++◌, None}
+use Rattle.std.proofs.Common.{◌≡◌, ◌⊎◌, inl, inr, refl, sym, subst, ◌∙◌, Bool, true, false, List, ◌++◌}
 use Rattle.pp_cache.specs.Bounds.{IsBounded}
 use Rattle.pp_law.specs.State.{State, Phase, Term, Deciding}
 use Rattle.pp_proxy.specs.Moving.{Moving}
