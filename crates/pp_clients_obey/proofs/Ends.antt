@@ -269,7 +269,7 @@ next_has name cs n s has = record {
       ∙ ap (λ (p : Bytes × List Client). (p.0, change (is_client n) next_request p.1)) has.same;
 }
 
-request_there : (front : SeatFront) (f : Front) → ShowsFront front f → keeps_open_in (asked_in front) ≡ true → (r : Parsed) × (f ≡ IsRequest r) × (is_ok r.rule ≡ true)
+pub request_there : (front : SeatFront) (f : Front) → ShowsFront front f → keeps_open_in (asked_in front) ≡ true → (r : Parsed) × (f ≡ IsRequest r) × (is_ok r.rule ≡ true)
 request_there NoneYet NoHeadYet shows keeps = absurd (cc keeps)
 request_there (NoneThere status) (NoHead other) shows keeps = absurd (cc keeps)
 request_there (IsThere a) (IsRequest r) shows keeps = (r, refl, second_holds (is_kept_open r.head.minor r.head.fields) (is_ok r.rule) (sym shows.keeps_open ∙ keeps))

@@ -108,7 +108,7 @@ ends_where i true x z is =
     beside_then i x y z (on_it i account_renewed x) (ends_by i (closes_in (slice_get x.parts.seats i)) y z is)
 ends_where i false x z is = subst (λ (y : Sides). IsBeside i x y) (sym is) (same_seats i x x refl refl)
 
-ends_of : (i : ℕ) (x z : Sides) → EndsSaidOf i x z → IsBeside i x z
+pub ends_of : (i : ℕ) (x z : Sides) → EndsSaidOf i x z → IsBeside i x z
 ends_of i x z is =
     let y : Sides = with_parts (on_seat i with_end) x in
     beside_then i x y z (on_it i with_end x) (ends_where i (is_said_in (slice_get x.parts.seats i)) y z is)

@@ -16,7 +16,7 @@ use Rattle.pp_events_law.specs.Stands.{IsHandled, StandsAtEvent}
 use Rattle.pp_flow_law.specs.Tables.{AreGiven, none_leaves}
 use Rattle.pp_law.specs.After.{paid}
 use Rattle.pp_law.specs.Lists.{Bytes, has_number}
-use Rattle.pp_law.specs.Replies.{end_replies}
+use Rattle.pp_law.specs.Replies.{end_replies, regained}
 use Rattle.pp_law.specs.State.{State, Owed, Handling, Free}
 use Rattle.pp_proxy.specs.Handling.{Rouses}
 use Rattle.pp_proxy.specs.Moving.{Turning}
@@ -122,3 +122,8 @@ module _ (number : ℕ → ℕ) (i : ℕ) (x y : Turning) (owed : Owed) (s : Sta
   pub behind_handled : IsHandled number y.moving (paid (end_replies m))
   unfolding paid
   behind_handled = record { handled = u; anew = refl; stands = end_stands; follows = follow_of number name behind.peers (parts behind.state) (end_replies m) ended.shows.steps ended.may.follow }
+
+  -- no instance came in
+  pub behind_next : (paid (end_replies m)).next_instance ≡ s.next_instance
+  unfolding paid regained
+  behind_next = stays (λ t. t.next_instance) refl refl

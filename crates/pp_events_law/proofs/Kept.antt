@@ -1,7 +1,7 @@
--- Bytes that are said to a client leave what it follows, how its exchange fares, and that more of it comes.
+-- Bytes that are said to a client leave what it follows, how its exchange fares, that more of it comes, and the request behind it.
 use Rattle.std.proofs.Common.{◌≡◌, refl, sym, ap, ◌∙◌, ℕ, ◌-◌, ◌+◌, Bool, true, false, not, ◌&&◌, nat_le, drop, length, [], Option, Some, None}
 use Rattle.pp_law.specs.Lists.{Bytes, is_some_with, is_this}
-use Rattle.pp_law.specs.Replies.{said_by, said_of, said_of_body}
+use Rattle.pp_law.specs.Replies.{next_request, said_by, said_of, said_of_body}
 use Rattle.pp_law.specs.Stages.{is_passing, on_passed, passed_of, reply_of}
 use Rattle.pp_law.specs.State.{Client, Course, Passed, Reply, Answering, Passes}
 use Rattle.pp_law.specs.Table.{follows}
@@ -67,3 +67,7 @@ said_through n = record {
   };
   comes = λ c on. said_comes n c ∙ on;
 }
+
+-- the next request reads nothing of what they change
+pub next_said : (n : ℕ) (c : Client) → next_request (said_by n c) ≡ next_request c
+next_said n c = said_keeps next_request (λ d left. refl) (λ d r q is same. refl) (passed_keeps next_request (λ d p. refl)) n c

@@ -122,7 +122,7 @@ leaves_ask i (Some e) x = by (option_map (λ entry. entry.errand) (entry_of e.nu
     by None = left_flow x.parts x.parts.flow
     by (Some errand) = at errand e.place
 
-closes_one : (i : ℕ) (x : Sides) → AreLeft x.parts (closed_client i x).parts
+pub closes_one : (i : ℕ) (x : Sides) → AreLeft x.parts (closed_client i x).parts
 closes_one i x =
     let p : Parts = left_source i x.parts in
     let q : Parts = closing_at i x.parts in

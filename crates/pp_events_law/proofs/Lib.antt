@@ -16,12 +16,17 @@ pub mod Gone
 pub mod Heard
 pub mod Hears
 pub mod Kept
+pub mod LastBytes
+pub mod LastSaid
 pub mod Left
 pub mod Newcomer
+pub mod Quiet
 pub mod Reaches
 pub mod ReadWhole
 pub mod ReadyBehind
 pub mod Rests
+pub mod SaidAll
+pub mod Sayings
 pub mod Sourced
 pub mod Standing
 pub mod Stops

@@ -18,7 +18,7 @@ use Rattle.pp_seats_law.specs.Clients.{AreShown}
 
 -- ---- of the law: where no reply is over, and nobody is finished, nothing ends
 
-none_each : (f : Client → State → State) (s : State) → ((n : ℕ) (c : Client) → client s n ≡ Some c → f c s ≡ s) → (ns : List ℕ) → each_client f ns s ≡ s
+pub none_each : (f : Client → State → State) (s : State) → ((n : ℕ) (c : Client) → client s n ≡ Some c → f c s ≡ s) → (ns : List ℕ) → each_client f ns s ≡ s
 unfolding each_client
 none_each f s none [] = refl
 none_each f s none (n ∷ ns) = ap (λ (t : State). each_client f ns t) (by (client s n) refl) ∙ none_each f s none ns

@@ -81,6 +81,14 @@ same_instances (Some x) m = by (is_there x.source m.instances)
     by true = refl
     by false = refl
 
+pub same_lives : (o : Option SeatNext) (m : Memory) → (used_chunks o m).lives ≡ m.lives
+same_lives None m = refl
+same_lives (Some x) m = by (is_there x.source m.instances)
+  where
+    by : (b : Bool) → (elim b as (λ t. Memory) [ true ↦ record m { chunks = used_run ((min x.to 1073741824 + 4095) / 4096 - x.at / 4096) x.source.slot (x.at / 4096) m.chunks } | false ↦ m ]).lives ≡ m.lives
+    by true = refl
+    by false = refl
+
 abbrev run_of : SeatNext → Memory → List Place
 run_of x m = used_run ((min x.to 1073741824 + 4095) / 4096 - x.at / 4096) x.source.slot (x.at / 4096) m.chunks
 

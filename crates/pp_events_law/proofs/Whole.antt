@@ -1,9 +1,12 @@
 -- The event of a client that can be written to, from the wait on.
-use Rattle.std.proofs.Common.{◌≡◌, ◌⊎◌, inl, inr, subst, ℕ, [], ◌∷◌, Option, Some}
+use Rattle.std.proofs.Common.{◌≡◌, subst, ℕ, [], ◌∷◌, Option, Some}
 use Rattle.pp_cache.specs.Bounds.{IsBounded}
 use Rattle.pp_desk.specs.declared.desk.Desk.{Desk}
-use Rattle.pp_events_law.proofs.Woken.{client_writes}
-use Rattle.pp_events_law.specs.Stands.{AreReadyAt, HasLed, HasLedBehind, StandsAtEvent, come}
+use Rattle.pp_events_law.proofs.Alike.{AreAlike}
+use Rattle.pp_events_law.proofs.ReadyBehind.{given_on}
+use Rattle.pp_events_law.proofs.Woken.{client_writes, woken_alike}
+use Rattle.pp_events_law.specs.Ready.{HasLedReady, HasLedReadyBehind}
+use Rattle.pp_events_law.specs.Stands.{AreReadyAt, StandsAtEvent, come}
 use Rattle.pp_events_law.specs.Woken.{IsOwed}
 use Rattle.pp_law.specs.After.{event, owing}
 use Rattle.pp_law.specs.State.{State, Awaiting, Free, WriteTo}
@@ -12,12 +15,12 @@ use Rattle.pp_obeys.proofs.Moving.{lead_joined}
 use Rattle.pp_proxy.specs.Handling.{SaysAt, Wakes, WritesAt, WritesBy}
 use Rattle.pp_proxy.specs.Moving.{Turning, at_desk}
 use Rattle.pp_seats.specs.declared.seat.Seat.{Seat}
-use Rattle.pp_state.specs.Ends.{numbers_of, place_of}
+use Rattle.pp_state.specs.Ends.{numbers_of, parts, place_of}
 use Rattle.pp_world.specs.declared.event.Event.TheVariants.{Writable}
 use Rattle.pp_world.specs.declared.happening.Happening.TheVariants.{CanWrite}
-use Rattle.pp_events_law.proofs.Told.{sayings_lead}
-use Rattle.pp_events_law.specs.Says.{IsLastSaid, MaySay}
-use Rattle.pp_events_law.specs.Sayable.{ClientWritesLead, IsLastOwed}
+use Rattle.pp_events_law.proofs.Sayings.{sayings_lead}
+use Rattle.pp_events_law.specs.Says.{MaySay}
+use Rattle.pp_events_law.specs.Sayable.{ClientWritesLead}
 
 module _ (number : ℕ → ℕ) (id i : ℕ) (x y : Turning) (seat : Seat) (s : State) (stands : StandsAtEvent number Awaiting Free x.moving s) (ready : AreReadyAt number x.moving s) (sound : IsSoundTurn (event (owing (WriteTo id) id s))) (place : place_of id (numbers_of x.moving.desk.state.seats.items) ≡ Some i)
     (may : (woken : Desk) → Wakes id x.moving.desk woken → MaySay id i (at_desk woken x) seat) (bounded : IsBounded y.moving.desk.state.cache) (writes : WritesAt id (come (Writable id) x) y) where
@@ -36,12 +39,17 @@ module _ (number : ℕ → ℕ) (id i : ℕ) (x y : Turning) (seat : Seat) (s : 
   owed : IsOwed number (WriteTo id) (CanWrite id) next.moving s v
   owed = client_writes number id x.moving woken s stands ready writes.wakes i place
 
-  by : HasLed number next y v ⊎ IsLastSaid id i next y seat → HasLedBehind number (CanWrite id) x y s ⊎ IsLastOwed number id i x y seat s
-  by (inl led) = inl (record { log = led.log; then = led.then; told = led.handled.told; leads = lead_joined (CanWrite id ∷ []) led.log s v led.then owed.leads led.handled.leads; handled = led.handled.handled })
-  by (inr last) = inr (record { woken = woken; owed = owed; last = last })
+  alike : AreAlike (parts x.moving.desk.state) (parts woken.state)
+  alike = woken_alike number id x.moving woken s stands ready writes.wakes (WriteTo id)
 
-  write_whole : HasLedBehind number (CanWrite id) x y s ⊎ IsLastOwed number id i x y seat s
-  write_whole = by (sayings_lead number id i next y seat v owed.stands owed.ready sound (may woken writes.wakes) bounded says)
+  said : HasLedReady number next y v
+  said = sayings_lead number id i next y seat v owed.stands owed.ready sound (may woken writes.wakes) bounded says
+
+  write_whole : HasLedReadyBehind number (CanWrite id) x y s
+  write_whole = record {
+    led = record { log = said.led.log; then = said.led.then; told = said.led.handled.told; leads = lead_joined (CanWrite id ∷ []) said.led.log s v said.led.then owed.leads said.led.handled.leads; handled = said.led.handled.handled };
+    ready = λ given. said.ready (given_on x next y alike given);
+  }
 
 pub writes_whole : ClientWritesLead
 writes_whole number id i x y seat s stands ready sound place may bounded writes = write_whole number id i x y seat s stands ready sound place may bounded writes

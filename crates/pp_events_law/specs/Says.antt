@@ -1,32 +1,30 @@
--- A client is said what is at hand for it, where nothing has to be read back before (RFC 2616, section 6): some of its reply is said, or the
--- write fails.
+-- A client is said what is at hand for it, where nothing has to be read back before (RFC 2616, sections 6 and 8.1): some of its reply is said,
+-- behind the last of which it is over, or the write fails.
 --
 -- Where the premises come from: `sound` of each state that a lawful log may go on as from (IsSoundTurn of pp_laws_turn). A client is written
 -- to where it has something to say (`has_to_say` of pp_law, as `is_dry` of pp_due reads it at the wait), so that where its next byte is not
 -- on the disk alone some of it is at hand; nobody is closing at a wait, no reply is over, and of nobody all is answered (from wait to wait:
 -- `close_over` and `end_replies` leave it so; no source yet). No instance is longer than 1 GiB (`can_keep` of pp_valid, at its making), nor a
--- span (no source yet).
-use Rattle.std.specs.Prelude.{◌≡◌, ◌<◌, ◌≤◌, ◌⊎◌, ℕ, true, false, length, slice_get, take, vec_capacity, [], ◌∷◌, Some, None}
+-- span (no source yet). Whether a reply that began closes is what its request and its head say (`Begun` of pp_laws_replies, of the client that
+-- the seat shows); that nobody counts 2^64 requests has no source yet.
+use Rattle.std.specs.Prelude.{◌≡◌, ◌<◌, ◌≤◌, ℕ, true, false, length, slice_get, vec_capacity, Some, None}
 use Rattle.pp_cache.specs.Bounds.{IsBounded}
-use Rattle.pp_client.specs.Replies.{is_said, said}
-use Rattle.pp_desk.specs.Closings.{sides, with_parts}
-use Rattle.pp_desk.specs.Replies.{EndsReplies}
-use Rattle.pp_desk.specs.declared.desk.Desk.{Desk}
+use Rattle.pp_clients_obey.specs.Ending.{GoesOn}
 use Rattle.pp_due.specs.OnDisk.{next_on_disk}
 use Rattle.pp_events_law.specs.Hears.{AreSettled}
-use Rattle.pp_events_law.specs.Stands.{AreReadyAt, HasLed, StandsAtEvent}
+use Rattle.pp_events_law.specs.Ready.{HasLedReady}
+use Rattle.pp_events_law.specs.Stands.{AreReadyAt, StandsAtEvent}
 use Rattle.pp_law.specs.State.{State, Handling, WriteTo}
 use Rattle.pp_laws_turn.specs.SoundTurn.{IsSoundTurn}
 use Rattle.pp_links.specs.Links.{IsLinked}
-use Rattle.pp_proxy.specs.Handling.{Rouses, SaysAt}
+use Rattle.pp_proxy.specs.Handling.{SaysAt}
 use Rattle.pp_proxy.specs.Moving.{Turning}
+use Rattle.pp_seats.specs.Courses.{has_begun}
 use Rattle.pp_seats.specs.Follows.{next_of}
 use Rattle.pp_seats.specs.declared.seat.Next.{Next}
 use Rattle.pp_seats.specs.declared.seat.Seat.{Seat}
 use Rattle.pp_state.specs.Ends.{numbers_of, place_of}
-use Rattle.pp_talk.specs.Talking.{offered, told_at}
-use Rattle.pp_world.specs.Log.{AppendsAll}
-use Rattle.pp_world.specs.declared.happening.Happening.TheVariants.{Said}
+use Rattle.pp_talk.specs.Talking.{offered}
 
 -- the client at this place is written to
 pub record MaySay (id i : ℕ) (x : Turning) (seat : Seat) : Type 0 where
@@ -44,19 +42,10 @@ pub record MaySay (id i : ℕ) (x : Turning) (seat : Seat) : Type 0 where
   -- Links of `pp_links`, at each call
   pub linked : IsLinked x.log x.moving.top x.moving.links
   pub settled : AreSettled x.moving.desk.state.seats.items
+  -- where it does not close behind a reply that began, its request keeps the connection open, and requests can be counted still
+  pub goes : has_begun seat ≡ true → seat.closes ≡ false → GoesOn seat
 
--- the last bytes of its reply were said, and replies that are over end behind them
-pub record IsLastSaid (id i : ℕ) (x y : Turning) (seat : Seat) : Type 0 where
-  pub count : ℕ
-  pub few : count ≤ length (offered seat.client.reply x.moving.desk.state.cache)
-  pub told : AppendsAll x.log y.log (λ l. Said id (length (offered seat.client.reply x.moving.desk.state.cache)) (take count (offered seat.client.reply x.moving.desk.state.cache)) ∷ [])
-  pub over : is_said (said count seat.client.reply) ≡ true
-  pub looked : Desk
-  pub rouses : Rouses i x.moving.desk looked
-  pub ends : EndsReplies looked.state.awake.items (with_parts (told_at i count) (sides x.moving.desk)) (sides y.moving.desk)
-
--- from where the write is owed. It leads where something of its reply is left, where nothing was taken, and where the write fails; behind
--- the last bytes nothing more is said here
+-- from where the write is owed: where some of its reply is left, where nothing was taken, where all of it was said and the reply is over, and
+-- where the write fails
 abbrev pub SayingsLead : Type 0
-SayingsLead = (number : ℕ → ℕ) (id i : ℕ) (x y : Turning) (seat : Seat) (s : State) → StandsAtEvent number Handling (WriteTo id) x.moving s → AreReadyAt number x.moving s → IsSoundTurn s → MaySay id i x seat → IsBounded y.moving.desk.state.cache → SaysAt i x y
-    → HasLed number x y s ⊎ IsLastSaid id i x y seat
+SayingsLead = (number : ℕ → ℕ) (id i : ℕ) (x y : Turning) (seat : Seat) (s : State) → StandsAtEvent number Handling (WriteTo id) x.moving s → AreReadyAt number x.moving s → IsSoundTurn s → MaySay id i x seat → IsBounded y.moving.desk.state.cache → SaysAt i x y → HasLedReady number x y s

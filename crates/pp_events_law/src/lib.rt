@@ -9,10 +9,10 @@
 //! a write or a break as long as memory was given for the key of each head that was read (`specs/Ready.antt`).
 //!
 //! `specs/Says.antt` has the write to a client for whom nothing has to be read back before: some of its reply is said, and the chunks of what
-//! was said are the ones used last; or the write fails, and the client is lost. `specs/Sayable.antt` has the same from the wait on.
+//! was said are the ones used last; behind the last bytes the reply is over, and the next request stands or the client is closed; or the
+//! write fails, and the client is lost. `specs/Sayable.antt` has the same from the wait on.
 //!
-//! Not said: what ends behind the last bytes of a reply, of which all that happened is told; the read of a chunk from the disk before a
-//! write; a read of an origin; and a client that comes for which there is no memory.
+//! Not said: the read of a chunk from the disk before a write; a read of an origin; and a client that comes for which there is no memory.
 //!
 //! To the layer above: each is the clause of a function that does nothing. It is one part of the proof that the program
 //! obeys the law: nothing is said here of a turn in which memory was refused for a row. The words of the program stand in `pp_proxy`,

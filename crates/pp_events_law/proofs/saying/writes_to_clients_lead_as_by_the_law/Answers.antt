@@ -1,4 +1,4 @@
-use Rattle.pp_events_law.proofs.Told.{sayings_lead}
+use Rattle.pp_events_law.proofs.Sayings.{sayings_lead}
 use Rattle.pp_events_law.proofs.Whole.{writes_whole}
 use Rattle.pp_events_law.proofs.saying.writes_to_clients_lead_as_by_the_law.Goals as goal
 
