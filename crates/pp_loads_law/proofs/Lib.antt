@@ -1,0 +1,9 @@
+pub mod Back
+pub mod Bytes
+pub mod Entries
+pub mod Loaded
+pub mod Losing
+pub mod Memory
+pub mod Nexts
+pub mod Read
+pub mod Said

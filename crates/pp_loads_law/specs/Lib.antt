@@ -1,0 +1,3 @@
+pub mod Stands
+pub mod Reads
+pub mod Losses
