@@ -18,7 +18,6 @@ use Rattle.pp_cache_law.specs.Reads.{AreBusy}
 use Rattle.pp_cache_law.specs.Rooms.{give_way, way_by, without_one}
 use Rattle.pp_cache_law.specs.Settles.{entered, numbered}
 use Rattle.pp_cache_law.specs.Tables.{ShowsCache, ShowsInstance, ShowsTable}
-use Rattle.pp_deciding_law.specs.Stands.{AreKept}
 use Rattle.pp_due.specs.Entering.{Comes, HasRowFor, MayCome, with_room_if_over}
 use Rattle.pp_due.specs.OnDisk.{Enters, IsBrought, kept_alone}
 use Rattle.pp_flow.specs.declared.entry.Entry.{Entry as Asking}
@@ -47,7 +46,7 @@ use Rattle.pp_steps_law.specs.Told.{AreTold}
 use Rattle.pp_store.specs.Kept.{Kept, KeptMap, kept_of as kept_in_store}
 use Rattle.pp_target.specs.Name.{name_of}
 use Rattle.pp_turns_law.proofs.Numbered.{AreSame, seats_as}
-use Rattle.pp_turns_law.specs.Rows.{IsKeptAs}
+use Rattle.pp_turns_law.specs.Rows.{AllAreKept, IsKeptAs}
 use Rattle.pp_valid.specs.declared.version.Version.{Version}
 use Rattle.pp_reads_law.proofs.Brings.{IsEntered, enters_for, enters_in, stays_with, stays_without}
 use Rattle.pp_reads_law.proofs.Given.{flow_as, given_lives, given_more, same_numbers}
@@ -73,7 +72,7 @@ same_on_disk s t key entries displaced = ap₂ (λ (texts : List Bytes) (es : Li
 abbrev kept_by : KeptMap → Bytes → List Bytes → Option Kept
 kept_by shelf key names = elim (list_any (bytes_eq (name_of key)) names) [ true ↦ None | false ↦ kept_in_store key shelf ]
 
-kept_still : (shelf : KeptMap) (m k : Memory) (s t : State) → k.outdated ≡ m.outdated → t.entries ≡ s.entries → t.displaced ≡ s.displaced → AreKept shelf m s → AreKept shelf k t
+kept_still : (shelf : KeptMap) (m k : Memory) (s t : State) → k.outdated ≡ m.outdated → t.entries ≡ s.entries → t.displaced ≡ s.displaced → AllAreKept shelf m s → AllAreKept shelf k t
 kept_still shelf m k s t outdated entries displaced are key =
     subst (λ (o : Option Entry). AreBoth IsKeptAs (kept_by shelf key k.outdated) o) (sym (same_on_disk s t key entries displaced))
     (subst (λ (names : List Bytes). AreBoth IsKeptAs (kept_by shelf key names) (row_on_disk s key)) (sym outdated) (are key))
