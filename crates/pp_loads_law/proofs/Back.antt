@@ -1,9 +1,10 @@
 -- A chunk is read back before a write, or it cannot be read.
-use Rattle.std.proofs.Common.{◌≡◌, ◌⊎◌, ◌≤◌, inl, inr, refl, sym, subst, ap, ◌∙◌, ℕ, ◌*◌, ◌/◌, Bool, true, false, cond, is_some, nat_lt, List, [], ◌∷◌, ◌++◌, Option, Some, None, Ok, Err, arith}
+use Rattle.std.proofs.Common.{◌≡◌, ◌⊎◌, ◌≤◌, inl, inr, refl, sym, subst, ap, ◌∙◌, ℕ, ◌*◌, ◌/◌, Bool, true, false, ◌&&◌, cond, is_some, nat_lt, List, [], ◌∷◌, ◌++◌, Option, Some, None, Ok, Err, arith}
 use Rattle.std.proofs.lemmas.Bool.Decides.{nat_tests}
 use Rattle.std.specs.Option.{option_and_then}
 use Rattle.std.specs.Prelude.{slice_get, IfSome}
 use Rattle.pp_cache.specs.Bounds.{IsBounded}
+use Rattle.pp_cache.specs.Memory.{is_in_memory}
 use Rattle.pp_cache_law.proofs.Alike.{instances_of}
 use Rattle.pp_cache_law.proofs.Numbers.{some_is}
 use Rattle.pp_cache_law.specs.Reads.{IsFound}
@@ -11,8 +12,11 @@ use Rattle.pp_cache_law.specs.Tables.{ShowsInstance}
 use Rattle.pp_due.specs.OnDisk.{next_on_disk}
 use Rattle.pp_law.specs.Lists.{Bytes}
 use Rattle.pp_law.specs.State.{State, Instance as Known, Free, WriteTo}
+use Rattle.pp_law.specs.Store.{load}
+use Rattle.pp_laws.proofs.Tests.{first_holds, second_holds}
 use Rattle.pp_objects.specs.Instances.{Instance, in_slot}
 use Rattle.pp_peers.specs.declared.peers.Peer.{Peer}
+use Rattle.pp_seats.specs.Follows.{answer_in, next_by}
 use Rattle.pp_seats.specs.declared.seat.Next.{Next}
 use Rattle.pp_seats.specs.declared.seat.Seat.{Seat}
 use Rattle.pp_shelf.specs.Given.{keeps_byte}
@@ -24,14 +28,17 @@ use Rattle.pp_store.specs.Kept.{Kept, KeptMap, kept_of, row_of}
 use Rattle.pp_store.specs.Loads.{GivesChunk, LoadCause, chunk_len}
 use Rattle.pp_store.specs.declared.faults.LoadFault.TheVariants.{DiskFault, Short}
 use Rattle.pp_talk.specs.Loading.{Answer, LoadsChunk, LoadsNext, LoadsOf, LoadsWhere, TakesChunk, chunk_at, load_log, shelf_after, with_none_kept}
+use Rattle.pp_talk.specs.Talking.{offered}
+use Rattle.pp_text.specs.Bytes.{is_empty}
 use Rattle.pp_turns_law.specs.Rows.{AreReady}
 use Rattle.pp_valid.specs.declared.version.Version.{Version}
 use Rattle.pp_world.specs.Log.{AppendsAll, Log, Told}
 use Rattle.pp_loads_law.proofs.Entries.{IsReadOf, is_read_of}
-use Rattle.pp_loads_law.proofs.Losing.{held_lost, law_lost, leads_lost, ready_lost, stands_lost}
+use Rattle.pp_loads_law.proofs.Losing.{anew_lost, held_lost, law_lost, leads_lost, ready_lost, stands_lost}
 use Rattle.pp_loads_law.proofs.Nexts.{IsSeen, is_seen}
 use Rattle.pp_loads_law.proofs.Read.{held_behind, leads, ready_behind, rest, rest_behind, some_behind, stands_behind, to_load}
-use Rattle.pp_loads_law.specs.Losses.{HasLost, IsFirstOwed}
+use Rattle.pp_loads_law.proofs.Unsaid.{nothing_offered}
+use Rattle.pp_loads_law.specs.Losses.{HasLost, IsFirstOwed, without_entry}
 use Rattle.pp_loads_law.specs.Reads.{ChunksAreReadBack, HasRead}
 use Rattle.pp_loads_law.specs.Stands.{IsOnLog, IsToLoad, StandsInEvent}
 
@@ -80,6 +87,14 @@ module _ (number : ℕ → ℕ) (id i : ℕ) (peers : List Peer) (p q : Turn) (s
   to_read : IsLoadedNext s x r.entry index
   to_read = to_load number id peers p shelf seat next s stands w r
 
+  -- where nothing more is kept, nothing is at hand
+  none_at_hand : offered seat.client.reply (with_none_kept next.source p).cache ≡ []
+  none_at_hand =
+      nothing_offered number p.name.items seat w.client (with_none_kept next.source p).cache next (w.shows.going w.going)
+      (ap (λ (b : Bool). elim b as (λ t. Option Next) [ true ↦ None | false ↦ next_by (answer_in seat.stage) seat.client.reply ]) (sym to.going) ∙ w.alone.its)
+      (first_holds (is_empty w.client.interim_left) _ w.body) (second_holds (is_empty w.client.interim_left) _ w.body)
+      (ap (λ (b : Bool). b && is_in_memory next.source.slot next.at p.cache.chunks) (sym w.there) ∙ w.alone.absent)
+
   -- ---- by what it gives
 
   by : (a : Answer) → is_some a ≡ keeps_byte (4096 * index) (kept_of x.key shelf) → IfSome a (λ g. Told old (GivesChunk (row_of x.key shelf) index chunk.out g)) → AppendsAll old new (λ l. load_log a x.key x.version index)
@@ -98,7 +113,7 @@ module _ (number : ℕ → ℕ) (id i : ℕ) (peers : List Peer) (p q : Turn) (s
         index = index;
         told = told;
         leads = leads number id peers p shelf seat next s stands w r;
-        stands = subst (λ (m : KeptMap). StandsInEvent number (WriteTo id) peers q m _) (sym map) (stands_behind number id peers p shelf seat next s stands w r q was.0 chunk.out count holds disk given cause to.room takes to.follows bounded);
+        stands = subst (λ (m : KeptMap). StandsInEvent number (WriteTo id) peers q m (load x.key index s)) (sym map) (stands_behind number id peers p shelf seat next s stands w r q was.0 chunk.out count holds disk given cause to.room takes to.follows bounded);
         held = held_behind number id peers p shelf seat next s stands w r q was.0 chunk.out count holds disk given cause to.room takes to.follows bounded;
         some = some_behind number id peers p shelf seat next s stands w r q was.0 chunk.out count holds disk given cause to.room takes to.follows bounded;
         rest = rest_behind number id peers p shelf seat next s stands w r q was.0 chunk.out count holds disk given cause to.room takes to.follows bounded;
@@ -113,13 +128,15 @@ module _ (number : ℕ → ℕ) (id i : ℕ) (peers : List Peer) (p q : Turn) (s
         leads = leads_lost number id peers p shelf seat next s stands w r to_read first;
         map = map;
         stands =
-            subst (λ (u : Turn). StandsInEvent number Free peers u behind _) (sym takes)
-            (subst (λ (m : KeptMap). StandsInEvent number Free peers (with_none_kept next.source p) m _) (sym map)
+            subst (λ (u : Turn). StandsInEvent number Free peers u behind (without_entry x.key s)) (sym takes)
+            (subst (λ (m : KeptMap). StandsInEvent number Free peers (with_none_kept next.source p) m (without_entry x.key s)) (sym map)
             (stands_lost number id peers p shelf seat next s stands w r to_read first (subst (λ (u : Turn). IsBounded u.cache) takes bounded)));
         held = ap (λ (u : Turn). next_on_disk u seat) takes ∙ held_lost number id peers p shelf seat next s stands w r to_read first;
+        none = subst (λ (u : Turn). offered seat.client.reply u.cache ≡ []) (sym takes) none_at_hand;
         rest = ap (λ (u : Turn). record u { cache = record u.cache { extents = p.cache.extents } }) takes;
         law = law_lost number id peers p shelf seat next s stands w r to_read first;
-        ready = λ on. subst (λ (u : Turn). AreReady number u.cache _ u.seats.items) (sym takes) (ready_lost number id peers p shelf seat next s stands w r to_read first on);
+        anew = anew_lost number id peers p shelf seat next s stands w r to_read first;
+        ready = λ on. subst (λ (u : Turn). AreReady number u.cache (without_entry x.key s).next_instance u.seats.items) (sym takes) (ready_lost number id peers p shelf seat next s stands w r to_read first on);
       })
   by (Some (Err (Short wanted got))) answered gives told cause map takes = absurd (cause.2.at on.log on.told)
 

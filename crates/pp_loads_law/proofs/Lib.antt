@@ -7,3 +7,4 @@ pub mod Memory
 pub mod Nexts
 pub mod Read
 pub mod Said
+pub mod Unsaid

@@ -1,5 +1,5 @@
 -- The chunk of the next byte cannot be read back: its entry is gone, and the turn shows the law's state without it.
-use Rattle.std.proofs.Common.{◌≡◌, ◌⊎◌, ◌<◌, inl, inr, refl, sym, subst, ap, ap₂, ◌∙◌, ℕ, ◌+◌, ◌-◌, ◌*◌, ◌/◌, Bool, true, false, ◌&&◌, ◌||◌, not, cond, find, is_some, nat_lt, map, min, List, [], ◌∷◌, Option, Some, None, arith}
+use Rattle.std.proofs.Common.{◌≡◌, ◌⊎◌, ◌<◌, inl, inr, refl, sym, subst, ap, ap₂, ◌∙◌, ℕ, ◌+◌, ◌-◌, ◌*◌, ◌/◌, ◌%◌, Bool, true, false, ◌&&◌, ◌||◌, not, cond, find, is_some, nat_lt, map, min, List, [], ◌∷◌, Option, Some, None, arith}
 use Rattle.std.specs.List.{list_any}
 use Rattle.std.proofs.lemmas.Bool.Decides.{nat_tests}
 use Rattle.std.specs.Option.{option_and_then}
@@ -16,19 +16,20 @@ use Rattle.pp_due.specs.OnDisk.{if_on_disk, is_on_disk, next_on_disk}
 use Rattle.pp_flow_law.specs.Tables.{none_leaves}
 use Rattle.pp_law.specs.After.{paid, unread}
 use Rattle.pp_law.specs.Chunks.{filled, victim}
+use Rattle.pp_law.specs.Connections.{anew}
 use Rattle.pp_law.specs.Followers.{give_up_asks}
-use Rattle.pp_law.specs.Lists.{Bytes, has_text, without}
+use Rattle.pp_law.specs.Lists.{Bytes, has_text, is_some_with, without}
 use Rattle.pp_law.specs.Opening.{is_opening, is_same_phase, lose_in_opening}
 use Rattle.pp_law.specs.Phases.{behind, in_phase, is_done, is_done_with, next}
-use Rattle.pp_law.specs.Replies.{regained}
+use Rattle.pp_law.specs.Replies.{regained, regained_by}
 use Rattle.pp_law.specs.State.{State, Client, Entry, Instance as Known, Phase, IsWoken, IsConfigured, IsRooted, IsListed, IsListening, IsStuck, Evicting, Keeping, Free, WriteTo, Todo, Do, no_agenda}
 use Rattle.pp_law.specs.Store.{close_name, is_at_rest, is_closed, is_idle_disk, is_named, lose_entry, note_gone, remove_entry, removing}
-use Rattle.pp_law.specs.Table.{extent_of, instance, is_entry_of, is_kept_row_of, kept_row, pins}
+use Rattle.pp_law.specs.Table.{extent_of, instance, is_entry_of, is_kept_row_of, is_next_held, kept_row, next_of as next_of_law, pins, Next}
 use Rattle.pp_laws.proofs.Lists.{in_filter, in_find}
 use Rattle.pp_laws.proofs.Tests.{first_holds, second_holds}
 use Rattle.pp_laws.specs.Runs.{IsIn}
 use Rattle.pp_obeys.proofs.Moving.{leads_to}
-use Rattle.pp_obeys.proofs.Silent.{both_hold}
+use Rattle.pp_obeys.proofs.Silent.{both_hold, or_second}
 use Rattle.pp_obeys.specs.Moves.{Leads, Leaves, Moves}
 use Rattle.pp_objects.specs.Instances.{is_there}
 use Rattle.pp_objects.specs.declared.id.ObjectId.{ObjectId}
@@ -99,6 +100,14 @@ kept_else key k es = by (bytes_eq k key) refl
         inl (find_out (is_kept_row_of k) (λ d. not (is_entry_of key d)) es (λ d out. ap (λ (b : Bool). not d.is_stale && b) (ap (λ (j : Bytes). bytes_eq d.key j) (same_bytes k key own) ∙ off_by (is_entry_of key d) out) ∙ and_false (not d.is_stale)))
     by false apart =
         inr (find_kept (is_kept_row_of k) (λ d. not (is_entry_of key d)) es (λ d is. ap (λ (b : Bool). not b) (ap (λ (j : Bytes). bytes_eq j key) (same_bytes d.key k (second_holds (not d.is_stale) (bytes_eq d.key k) is)) ∙ apart)))
+
+-- what changes none of them under one change, changes none under the other
+all_same : {A : Type 0} (f g : A → A) (xs : List A) → ((x : A) → f x ≡ x → g x ≡ x) → map f xs ≡ xs → map g xs ≡ xs
+all_same f g [] one same = refl
+all_same f g (x ∷ xs) one same =
+    let first : f x ≡ x = cc same in
+    let rest : map f xs ≡ xs = cc same in
+    ap₂ (λ y ys. y ∷ ys) (one x first) (all_same f g xs one rest)
 
 none_under_way : {A : Type 0} (o : Option A) → not (is_some o) ≡ true → o ≡ None
 none_under_way None is = refl
@@ -299,6 +308,57 @@ module _ (number : ℕ → ℕ) (id : ℕ) (peers : List Peer) (p : Turn) (shelf
   unfolding remove_entry
   stands_so bounded = record { none = stands.none; at = stands.at; owes = refl; turn = turn_so bounded; disk = disk_so }
 
+  -- ---- attempts do not count anew
+
+  far_less : (b : Bool) (at : ℕ) (rest : Bool) (k : ℕ) → k ≡ 0 → (nat_lt at k || rest) ≡ true → rest ≡ true
+  far_less b at true k is held = refl
+  far_less b at false k is held = absurd (none at k is held)
+    where
+      none : (at k : ℕ) → k ≡ 0 → (nat_lt at k || false) ≡ true → ⊥
+      none at k is held = grind (arith, nat_tests, is, held)
+
+  held_before : (o : Next) → is_next_held removed o ≡ true → is_next_held s o ≡ true
+  unfolding remove_entry
+  held_before o held = by (entries_else o.source.key)
+    where
+      y : Known
+      y = o.source
+
+      none_far : (b : Bool) → far b None ≡ 0
+      none_far true = refl
+      none_far false = refl
+
+      by : (find (is_kept_row_of y.key) (without (is_entry_of e.key) s.entries) ≡ None) ⊎ (find (is_kept_row_of y.key) (without (is_entry_of e.key) s.entries) ≡ find (is_kept_row_of y.key) s.entries) → is_next_held s o ≡ true
+      by (inl none) =
+          or_second (nat_lt o.at (extent_of s y)) (nat_lt (o.at % 4096) (filled y.id (o.at / 4096) s.chunks))
+          (far_less true o.at (nat_lt (o.at % 4096) (filled y.id (o.at / 4096) s.chunks)) (far y.is_retired (find (is_kept_row_of y.key) (without (is_entry_of e.key) s.entries))) (ap (λ (d : Option Entry). far y.is_retired d) none ∙ none_far y.is_retired) held)
+      by (inr same) = ap (λ (d : Option Entry). nat_lt o.at (far y.is_retired d) || nat_lt (o.at % 4096) (filled y.id (o.at / 4096) s.chunks)) (sym same) ∙ held
+
+  one_same : (c : Client) → regained_by s c ≡ c → regained_by removed c ≡ c
+  unfolding remove_entry
+  one_same c was = by (next_of_law s c) was
+    where
+      again : Client
+      again = record c { course = anew c.course }
+
+      last : (o : Next) (b : Bool) → is_next_held removed o ≡ b → (elim (is_next_held s o) as (λ t. Client) [ true ↦ again | false ↦ c ]) ≡ c → (elim b as (λ t. Client) [ true ↦ again | false ↦ c ]) ≡ c
+      last o true held before = sym (ap (λ (b : Bool). elim b as (λ t. Client) [ true ↦ again | false ↦ c ]) (held_before o held)) ∙ before
+      last o false held before = refl
+
+      by : (o : Option Next) → (elim (is_some_with (is_next_held s) o) as (λ t. Client) [ true ↦ again | false ↦ c ]) ≡ c → (elim (is_some_with (is_next_held removed) o) as (λ t. Client) [ true ↦ again | false ↦ c ]) ≡ c
+      by None before = refl
+      by (Some o) before = last o (is_next_held removed o) refl before
+
+  anew_removed : regained removed ≡ removed
+  unfolding regained remove_entry
+  anew_removed = ap (λ (cs : List Client). record removed { clients = cs }) (all_same (regained_by s) (regained_by removed) s.clients one_same same_clients_now)
+    where
+      same_clients_now : map (regained_by s) s.clients ≡ s.clients
+      same_clients_now = same_clients
+
+  pub anew_lost : regained (without_entry key s) ≡ without_entry key s
+  anew_lost = subst (λ (u : State). regained u ≡ u) (sym without_is) anew_removed
+
   -- ---- all of it
 
   pub leads_lost : LeadsOut key s (at_disk (without_entry key s))
@@ -320,7 +380,7 @@ module _ (number : ℕ → ℕ) (id : ℕ) (peers : List Peer) (p : Turn) (shelf
       never : (at : ℕ) → nat_lt at 0 ≡ false
       never at = grind (arith, nat_tests)
 
-      either : (b : Bool) → cond b 0 0 ≡ 0
+      either : (b : Bool) → ◌≡◌ {A = ℕ} (cond b 0 0) 0
       either true = refl
       either false = refl
 

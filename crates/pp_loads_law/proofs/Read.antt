@@ -182,7 +182,7 @@ module _ (number : ℕ → ℕ) (id : ℕ) (peers : List Peer) (p : Turn) (shelf
 
     -- ---- some of it is said next
 
-    n : Next
+    abbrev n : Next
     n = w.known_next
 
     next_held : is_next_held t n ≡ true

@@ -15,6 +15,7 @@ use Rattle.pp_seats.specs.declared.seat.Seat.{Seat}
 use Rattle.pp_state.specs.declared.state.State.{State as Turn}
 use Rattle.pp_store.specs.Changes.{lost}
 use Rattle.pp_store.specs.Kept.{KeptMap}
+use Rattle.pp_talk.specs.Talking.{offered}
 use Rattle.pp_target.specs.Name.{name_of}
 use Rattle.pp_turns_law.specs.Rows.{AreReady}
 use Rattle.pp_world.specs.Log.{AppendsAll, Log}
@@ -53,9 +54,12 @@ pub record HasLost (number : ℕ → ℕ) (peers : List Peer) (p q : Turn) (shel
   pub leads : LeadsOut key s (at_disk (without_entry key s))
   pub map : behind ≡ lost key shelf
   pub stands : StandsInEvent number Free peers q behind (without_entry key s)
-  -- nothing has to be read any more before what is said next
+  -- nothing has to be read any more before what is said next, and nothing is at hand
   pub held : next_on_disk q seat ≡ None
+  pub none : offered seat.client.reply q.cache ≡ []
   -- all else is as it was, of the turn and of the law's state
   pub rest : record q { cache = record q.cache { extents = p.cache.extents } } ≡ p
   pub law : IsLost s (without_entry key s)
+  -- attempts count anew no more than before
+  pub anew : regained (without_entry key s) ≡ without_entry key s
   pub ready : AreReady number p.cache s.next_instance p.seats.items → AreReady number q.cache (without_entry key s).next_instance q.seats.items

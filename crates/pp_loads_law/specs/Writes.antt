@@ -8,9 +8,9 @@ use Rattle.pp_cache.specs.Bounds.{IsBounded}
 use Rattle.pp_desk.specs.Anything.{anything}
 use Rattle.pp_events_law.specs.Hears.{AreSettled}
 use Rattle.pp_events_law.specs.Says.{IsLastSaid}
-use Rattle.pp_events_law.specs.Stands.{AreReadyAt, HasLed, StandsAtEvent}
+use Rattle.pp_events_law.specs.Stands.{AreReadyAt, HasLed, IsHandled, StandsAtEvent}
 use Rattle.pp_law.specs.Lists.{Bytes}
-use Rattle.pp_law.specs.State.{State, Term, Handling, Free, WriteTo}
+use Rattle.pp_law.specs.State.{State, Term, Handling, WriteTo}
 use Rattle.pp_links.specs.Links.{IsLinked}
 use Rattle.pp_obeys.specs.Moves.{Leads}
 use Rattle.pp_obeys.specs.Obeys.{Obeys}
@@ -52,18 +52,16 @@ pub record IsLastOfRead (number : ℕ → ℕ) (id i : ℕ) (x y : Turning) (sea
   pub stands : StandsAtEvent number Handling (WriteTo id) read.moving then
   pub last : IsLastSaid id i read y seat
 
--- the chunk could not be read: the turn shows the law's state without the entry, and what is at hand is offered yet
-pub record IsLostToRead (number : ℕ → ℕ) (i : ℕ) (x y : Turning) (s : State) : Type 0 where
-  pub unread : Turning
+-- the chunk could not be read, and nothing is said: the event is handled, and the turn stands behind it at the law's state without the entry,
+-- from which the phases up to the disk lead to the law's
+pub record HasLostChunk (number : ℕ → ℕ) (x y : Turning) (s : State) : Type 0 where
   pub key : Bytes
-  pub told : AppendsAll x.log unread.log (λ l. Unread (name_of key) ∷ Noted (Gone key) ∷ [])
+  pub told : AppendsAll x.log y.log (λ l. Unread (name_of key) ∷ Noted (Gone key) ∷ [])
   pub leads : LeadsOut key s (at_disk (without_entry key s))
-  pub map : unread.shelf ≡ lost key x.shelf
-  pub disk : StandsOnDisk unread.shelf (without_entry key s)
-  pub stands : StandsAtEvent number Handling Free unread.moving (without_entry key s)
-  pub ready : AreReadyAt number unread.moving (without_entry key s)
-  pub says : SaysAt i unread y
+  pub map : y.shelf ≡ lost key x.shelf
+  pub disk : StandsOnDisk y.shelf (without_entry key s)
+  pub handled : IsHandled number y.moving (without_entry key s)
 
 abbrev pub LoadsLead : Type 0
 LoadsLead = (terms : List Term) (before : Log) (number : ℕ → ℕ) (id i : ℕ) (x y : Turning) (seat : Seat) (next : Next) (s : State) → x.log ≡ Some before → Obeys terms s before → StandsAtEvent number Handling (WriteTo id) x.moving s → AreReadyAt number x.moving s → MayLoad id i x y seat next s
-    → (says : SaysAt i x y) → IsBounded says.says.loaded.state.cache → IsBounded y.moving.desk.state.cache → HasLed number x y s ⊎ (IsLastOfRead number id i x y seat s ⊎ IsLostToRead number i x y s)
+    → (says : SaysAt i x y) → IsBounded says.says.loaded.state.cache → IsBounded y.moving.desk.state.cache → HasLed number x y s ⊎ (IsLastOfRead number id i x y seat s ⊎ HasLostChunk number x y s)
