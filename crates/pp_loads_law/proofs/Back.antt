@@ -1,5 +1,5 @@
 -- A chunk is read back before a write, or it cannot be read.
-use Rattle.std.proofs.Common.{◌≡◌, ◌⊎◌, ◌≤◌, inl, inr, refl, sym, subst, ap, ◌∙◌, ℕ, ◌*◌, ◌/◌, Bool, true, false, ◌&&◌, cond, is_some, nat_lt, List, [], ◌∷◌, ◌++◌, Option, Some, None, Ok, Err, arith}
+use Rattle.std.proofs.Common.{◌≡◌, ◌⊎◌, ◌≤◌, inl, inr, sym, subst, ap, ◌∙◌, ℕ, ◌*◌, ◌/◌, Bool, true, false, ◌&&◌, cond, is_some, nat_lt, List, [], Option, Some, None, Ok, Err, arith}
 use Rattle.std.proofs.lemmas.Bool.Decides.{nat_tests}
 use Rattle.std.specs.Option.{option_and_then}
 use Rattle.std.specs.Prelude.{slice_get, IfSome}
@@ -23,7 +23,6 @@ use Rattle.pp_shelf.specs.Given.{keeps_byte}
 use Rattle.pp_shelf_law.specs.Loads.{IsToLoad as IsLoadedNext}
 use Rattle.pp_state.specs.Bringing.{instance_of}
 use Rattle.pp_state.specs.declared.state.State.{State as Turn}
-use Rattle.pp_store.specs.Changes.{lost}
 use Rattle.pp_store.specs.Kept.{Kept, KeptMap, kept_of, row_of}
 use Rattle.pp_store.specs.Loads.{GivesChunk, LoadCause, chunk_len}
 use Rattle.pp_store.specs.declared.faults.LoadFault.TheVariants.{DiskFault, Short}

@@ -1,5 +1,5 @@
 -- The bytes of a chunk that was read: they are the law's, and as many as the chunk has.
-use Rattle.std.proofs.Common.{◌≡◌, ◌<◌, ◌≤◌, refl, sym, subst, ap, ◌∙◌, ℕ, ◌+◌, ◌-◌, ◌*◌, ◌/◌, drop, length, min, take, List, [], Option, Some, Ok, arith}
+use Rattle.std.proofs.Common.{◌≡◌, ◌<◌, ◌≤◌, sym, subst, ap, ◌∙◌, ℕ, ◌+◌, ◌-◌, ◌*◌, drop, length, min, take, Some, Ok, arith}
 use Rattle.std.proofs.lemmas.List.{length-drop, length-take}
 use Rattle.pp_desk.specs.Anything.{anything}
 use Rattle.pp_entry.specs.Texts.{body_at}

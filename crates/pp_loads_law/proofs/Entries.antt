@@ -1,5 +1,5 @@
 -- The entry of which the next byte is read, in the law and on the shelf.
-use Rattle.std.proofs.Common.{◌≡◌, ◌⊎◌, ◌<◌, ◌≤◌, inl, inr, refl, sym, subst, ap, ◌∙◌, ℕ, ◌+◌, ◌-◌, ◌*◌, ◌/◌, ◌%◌, Bool, true, false, ◌||◌, ◌&&◌, not, cond, find, length, min, nat_lt, List, [], ◌∷◌, Option, Some, None, arith}
+use Rattle.std.proofs.Common.{◌≡◌, ◌⊎◌, ◌<◌, ◌≤◌, inl, inr, refl, sym, subst, ap, ◌∙◌, ℕ, ◌-◌, ◌*◌, ◌/◌, ◌%◌, Bool, true, false, ◌||◌, not, cond, find, length, min, nat_lt, List, [], ◌∷◌, Option, Some, None, arith}
 use Rattle.std.proofs.lemmas.Bool.Decides.{nat_tests}
 use Rattle.std.specs.List.{list_any}
 use Rattle.std.specs.Prelude.{unwrap_or}
@@ -16,7 +16,7 @@ use Rattle.pp_obeys.proofs.Silent.{both_hold}
 use Rattle.pp_shelf.specs.Given.{keeps_byte}
 use Rattle.pp_shelf_law.proofs.Finding.{found_is, kept_ones, named_in, others}
 use Rattle.pp_shelf_law.proofs.Shelves.{bytes_same, same_bytes}
-use Rattle.pp_shelf_law.specs.Kept.{HasOneRow, IsOf}
+use Rattle.pp_shelf_law.specs.Kept.{IsOf}
 use Rattle.pp_shelf_law.specs.Shelf.{ShowsEntry}
 use Rattle.pp_store.specs.Kept.{IsExtent, Kept, KeptMap, kept_of, no_row, row_of}
 use Rattle.pp_target.specs.Name.{name_of}

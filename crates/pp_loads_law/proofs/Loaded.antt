@@ -1,5 +1,5 @@
 -- What a chunk that is read back changes of the law's state: its own place in memory alone.
-use Rattle.std.proofs.Common.{◌≡◌, ◌⊎◌, ◌<◌, inl, inr, refl, sym, subst, ap, ap₂, ◌∙◌, ℕ, ◌-◌, ◌*◌, Bool, true, false, ◌==◌, ◌&&◌, ◌||◌, not, cond, find, length, min, nat_le, List, [], ◌∷◌, ◌++◌, Option, Some, None}
+use Rattle.std.proofs.Common.{◌≡◌, ◌⊎◌, ◌<◌, inr, refl, sym, subst, ap, ap₂, ◌∙◌, ℕ, ◌-◌, ◌*◌, Bool, true, false, ◌==◌, ◌&&◌, not, cond, find, length, min, List, [], ◌∷◌, Option, Some, None}
 use Rattle.pp_cache_law.proofs.Finds.{find_joined, find_kept, find_out, first_of_two}
 use Rattle.pp_cache_law.proofs.Numbers.{is_same, same_test, some_is}
 use Rattle.pp_law.specs.Chunks.{chunk_bytes, filled, is_chunk, note_use, put_chunk}

@@ -5,8 +5,7 @@ use Rattle.std.proofs.lemmas.Bool.Decides.{nat_tests}
 use Rattle.std.specs.Option.{option_and_then}
 use Rattle.std.specs.Prelude.{bytes_eq}
 use Rattle.pp_cache.specs.Bounds.{IsBounded}
-use Rattle.pp_cache.specs.Memory.{Memory, extent_of as bytes_kept, is_in_memory, stands as is_standing}
-use Rattle.pp_cache.specs.OnDisk.{kept_to}
+use Rattle.pp_cache.specs.Memory.{extent_of as bytes_kept, is_in_memory, stands as is_standing}
 use Rattle.pp_cache_law.proofs.Extents.{its_kept}
 use Rattle.pp_cache_law.proofs.Finds.{find_kept, find_out}
 use Rattle.pp_cache_law.proofs.Framing.{frames_of, the_same}
@@ -20,11 +19,11 @@ use Rattle.pp_law.specs.Connections.{anew}
 use Rattle.pp_law.specs.Followers.{give_up_asks}
 use Rattle.pp_law.specs.Lists.{Bytes, has_text, is_some_with, without}
 use Rattle.pp_law.specs.Opening.{is_opening, is_same_phase, lose_in_opening}
-use Rattle.pp_law.specs.Phases.{behind, in_phase, is_done, is_done_with, next}
+use Rattle.pp_law.specs.Phases.{behind, in_phase, is_done_with, next}
 use Rattle.pp_law.specs.Replies.{regained, regained_by}
-use Rattle.pp_law.specs.State.{State, Client, Entry, Instance as Known, Phase, IsWoken, IsConfigured, IsRooted, IsListed, IsListening, IsStuck, Evicting, Keeping, Free, WriteTo, Todo, Do, no_agenda}
-use Rattle.pp_law.specs.Store.{close_name, is_at_rest, is_closed, is_idle_disk, is_named, lose_entry, note_gone, remove_entry, removing}
-use Rattle.pp_law.specs.Table.{extent_of, instance, is_entry_of, is_kept_row_of, is_next_held, kept_row, next_of as next_of_law, pins, Next}
+use Rattle.pp_law.specs.State.{State, Client, Entry, Instance as Known, Phase, IsWoken, IsConfigured, IsRooted, IsListed, IsListening, IsStuck, Evicting, Free, WriteTo, Todo, Do, no_agenda}
+use Rattle.pp_law.specs.Store.{close_name, is_at_rest, is_closed, is_idle_disk, lose_entry, note_gone, remove_entry, removing}
+use Rattle.pp_law.specs.Table.{extent_of, is_entry_of, is_kept_row_of, is_next_held, next_of as next_of_law, pins, Next}
 use Rattle.pp_laws.proofs.Lists.{in_filter, in_find}
 use Rattle.pp_laws.proofs.Tests.{first_holds, second_holds}
 use Rattle.pp_laws.specs.Runs.{IsIn}
@@ -32,7 +31,6 @@ use Rattle.pp_obeys.proofs.Moving.{leads_to}
 use Rattle.pp_obeys.proofs.Silent.{both_hold, or_second}
 use Rattle.pp_obeys.specs.Moves.{Leads, Leaves, Moves}
 use Rattle.pp_objects.specs.Instances.{is_there}
-use Rattle.pp_objects.specs.declared.id.ObjectId.{ObjectId}
 use Rattle.pp_peers.specs.declared.peers.Peer.{Peer}
 use Rattle.pp_seats.specs.Seats.{is_at_body}
 use Rattle.pp_seats.specs.declared.seat.Next.{Next as SeatNext}
@@ -46,7 +44,6 @@ use Rattle.pp_shelf_law.specs.Shelf.{IsResting, ShowsShelf}
 use Rattle.pp_shelf_law.specs.Takings.{LeadsTo}
 use Rattle.pp_state.specs.Ends.{parts}
 use Rattle.pp_state.specs.declared.state.State.{State as Turn}
-use Rattle.pp_steps_law.specs.Steps.{ShowsSteps}
 use Rattle.pp_steps_law.specs.Told.{IsTold}
 use Rattle.pp_store.specs.Changes.{lost}
 use Rattle.pp_store.specs.Kept.{KeptMap}

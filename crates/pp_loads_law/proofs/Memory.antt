@@ -1,7 +1,6 @@
 -- What a chunk that is read back changes of the program's memory: it shows what the law puts there, and all else of the turn stands.
-use Rattle.std.proofs.Common.{◌≡◌, ◌<◌, ◌≤◌, refl, sym, subst, ap, ap₂, ◌∙◌, ℕ, ◌+◌, ◌-◌, ◌*◌, ◌/◌, Bool, true, false, ◌&&◌, ◌||◌, cond, find, length, min, nat_le, nat_lt, take, List, [], ◌++◌, Option, Some, None, option_map, arith}
+use Rattle.std.proofs.Common.{◌≡◌, ◌<◌, ◌≤◌, refl, sym, subst, ap, ap₂, ◌∙◌, ℕ, ◌+◌, ◌-◌, ◌*◌, ◌/◌, Bool, true, false, ◌&&◌, find, length, min, nat_le, take, List, [], ◌++◌, Option, Some, None, option_map, arith}
 use Rattle.std.proofs.lemmas.Bool.Decides.{nat_tests}
-use Rattle.std.specs.Prelude.{slice_get}
 use Rattle.pp_cache.specs.Bounds.{IsBounded}
 use Rattle.pp_cache.specs.Memory.{Memory}
 use Rattle.pp_cache.specs.OnDisk.{grown_by}

@@ -2,7 +2,6 @@
 use Rattle.std.proofs.Common.{◌≡◌, ◌<◌, refl, sym, subst, ap, ◌∙◌, ℕ, ◌/◌, ◌%◌, Bool, true, false, ◌&&◌, not, nat_lt, List, [], length, Option, Some, None, arith}
 use Rattle.std.proofs.lemmas.Bool.Decides.{nat_tests}
 use Rattle.std.specs.Option.{option_and_then}
-use Rattle.std.specs.Prelude.{slice_get}
 use Rattle.pp_cache.specs.Memory.{Memory, extent_of as bytes_kept, is_in_memory}
 use Rattle.pp_cache_law.proofs.Alike.{bytes_of, extents_of}
 use Rattle.pp_cache_law.proofs.Changed.{its_number}
@@ -11,17 +10,16 @@ use Rattle.pp_cache_law.specs.Tables.{ShowsTable}
 use Rattle.pp_due.specs.OnDisk.{if_on_disk, next_on_disk}
 use Rattle.pp_flow_law.specs.Tables.{none_leaves}
 use Rattle.pp_holes.specs.Places.{bytes_at}
-use Rattle.pp_law.specs.Chunks.{chunk_bytes, filled, is_in_memory as is_in_law_memory}
+use Rattle.pp_law.specs.Chunks.{chunk_bytes, is_in_memory as is_in_law_memory}
 use Rattle.pp_law.specs.Connections.{is_client}
 use Rattle.pp_law.specs.Lists.{Bytes}
 use Rattle.pp_law.specs.Offers.{is_at_body as at_body_of_law}
 use Rattle.pp_law.specs.Stages.{reply_of}
-use Rattle.pp_law.specs.State.{State, Client, Instance as Known, Owed, WriteTo}
+use Rattle.pp_law.specs.State.{State, Client, Instance as Known, Owed}
 use Rattle.pp_law.specs.Table.{Next, extent_of, instance, next_of as next_of_law}
 use Rattle.pp_laws.proofs.Lists.{in_find}
 use Rattle.pp_laws.specs.Runs.{IsIn}
 use Rattle.pp_objects.specs.Instances.{is_there}
-use Rattle.pp_objects.specs.declared.id.ObjectId.{ObjectId}
 use Rattle.pp_peers.specs.declared.peers.Peer.{Peer}
 use Rattle.pp_seats.specs.Courses.{has_begun}
 use Rattle.pp_seats.specs.Follows.{next_of}
@@ -33,7 +31,7 @@ use Rattle.pp_seats_law.proofs.Nexts.{nexts}
 use Rattle.pp_seats_law.proofs.Stages.{begun}
 use Rattle.pp_seats_law.specs.Clients.{IsAt, IsFound}
 use Rattle.pp_seats_law.specs.Seats.{ShowsOpen, ShowsSeat}
-use Rattle.pp_seats_law.specs.Words.{HasSource, IsSameNext, ShowsNext}
+use Rattle.pp_seats_law.specs.Words.{HasSource, ShowsNext}
 use Rattle.pp_state.specs.declared.state.State.{State as Turn}
 use Rattle.pp_steps_law.proofs.Places.{at_place}
 use Rattle.pp_store.specs.Kept.{KeptMap}

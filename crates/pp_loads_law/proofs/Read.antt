@@ -1,5 +1,5 @@
 -- The chunk of the next byte is read back, and the turn shows the law's state behind it.
-use Rattle.std.proofs.Common.{◌≡◌, ◌<◌, ◌≤◌, refl, sym, subst, ap, ap₂, ◌∙◌, ℕ, ◌+◌, ◌-◌, ◌*◌, ◌/◌, ◌%◌, Bool, true, false, ◌&&◌, ◌||◌, not, length, min, nat_lt, take, List, [], Option, Some, None, Ok, arith}
+use Rattle.std.proofs.Common.{◌≡◌, ◌<◌, ◌≤◌, refl, sym, subst, ap, ap₂, ◌∙◌, ℕ, ◌+◌, ◌-◌, ◌*◌, ◌/◌, ◌%◌, Bool, true, false, ◌&&◌, ◌||◌, not, length, min, nat_lt, take, List, [], Option, None, Ok, arith}
 use Rattle.std.proofs.lemmas.Bool.Decides.{nat_tests}
 use Rattle.std.specs.Prelude.{slice_get}
 use Rattle.pp_cache.specs.Bounds.{IsBounded}
@@ -15,21 +15,19 @@ use Rattle.pp_law.specs.Asking.{is_writing}
 use Rattle.pp_law.specs.Chunks.{chunk_bytes, filled, is_in_memory as is_in_law_memory}
 use Rattle.pp_law.specs.Lists.{Bytes, is_some_with}
 use Rattle.pp_law.specs.Offers.{has_to_say, is_at_body, offer}
-use Rattle.pp_law.specs.State.{State, Chunk, Client, Entry, Instance as Known, Owed, WriteTo}
+use Rattle.pp_law.specs.State.{State, Chunk, Entry, Instance as Known, Owed, WriteTo}
 use Rattle.pp_law.specs.Store.{chunk_in_file, load}
 use Rattle.pp_law.specs.Table.{Next, extent_of, is_next_held, next_of as next_of_law}
-use Rattle.pp_objects.specs.Instances.{Instance, is_there}
+use Rattle.pp_objects.specs.Instances.{is_there}
 use Rattle.pp_objects.specs.declared.id.ObjectId.{ObjectId}
 use Rattle.pp_obeys.proofs.Silent.{or_second}
 use Rattle.pp_obeys.specs.Moves.{Leads}
 use Rattle.pp_peers.specs.declared.peers.Peer.{Peer}
 use Rattle.pp_seats.specs.declared.seat.Next.{Next as SeatNext}
 use Rattle.pp_seats.specs.declared.seat.Seat.{Seat}
-use Rattle.pp_seats_law.specs.Seats.{ShowsSeat}
 use Rattle.pp_shelf_law.proofs.Loaded.{loads}
 use Rattle.pp_shelf_law.specs.Folder.{disk_of}
 use Rattle.pp_shelf_law.specs.Loads.{IsToLoad as IsLoadedNext}
-use Rattle.pp_shelf_law.specs.Shelf.{ShowsShelf}
 use Rattle.pp_desk.specs.Anything.{anything}
 use Rattle.pp_state.specs.Bodies.{IsButForCells, with_bytes, with_use}
 use Rattle.pp_state.specs.declared.state.State.{State as Turn}
@@ -51,7 +49,7 @@ use Rattle.pp_loads_law.proofs.Memory.{bytes_added, cache_shows, same_there, sti
 use Rattle.pp_loads_law.proofs.Nexts.{IsSeen}
 use Rattle.pp_loads_law.proofs.Said.{held, in_memory, some_offered}
 use Rattle.pp_loads_law.specs.Reads.{IsLoaded, loaded_note}
-use Rattle.pp_loads_law.specs.Stands.{IsToLoad, StandsInEvent, StandsOnDisk}
+use Rattle.pp_loads_law.specs.Stands.{StandsInEvent, StandsOnDisk}
 
 -- ---- numbers
 

@@ -17,7 +17,6 @@ use Rattle.pp_seats.specs.declared.seat.Seat.{Seat}
 use Rattle.pp_state.specs.declared.state.State.{State as Turn}
 use Rattle.pp_talk.specs.Talking.{offered, offered_in}
 use Rattle.pp_text.specs.Bytes.{is_empty}
-use Rattle.pp_loads_law.proofs.Nexts.{IsAlone}
 
 and_false : (b : Bool) → (b && false) ≡ false
 and_false true = refl

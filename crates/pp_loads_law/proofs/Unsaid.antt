@@ -1,5 +1,5 @@
 -- Where the next byte is not in memory, and the body is next, nothing is at hand.
-use Rattle.std.proofs.Common.{◌≡◌, ◌⊎◌, ◌<◌, ◌≤◌, inl, inr, refl, sym, subst, ap, ap₂, ◌∙◌, ℕ, zero, suc, ◌+◌, ◌-◌, ◌*◌, ◌/◌, ◌%◌, Bool, true, false, ◌&&◌, ◌==◌, cond, drop, length, nat_lt, take, if◌then◌else◌, List, [], ◌∷◌, ◌++◌, Option, Some, None, option_map, arith}
+use Rattle.std.proofs.Common.{◌≡◌, ◌⊎◌, ◌<◌, inl, inr, refl, sym, subst, ap, ap₂, ◌∙◌, ℕ, zero, suc, ◌+◌, ◌-◌, ◌*◌, ◌/◌, ◌%◌, Bool, true, false, ◌&&◌, ◌==◌, cond, drop, length, nat_lt, take, if◌then◌else◌, List, [], ◌∷◌, ◌++◌, Option, Some, None, option_map, arith}
 use Rattle.std.proofs.lemmas.Bool.Decides.{nat_tests}
 use Rattle.std.proofs.lemmas.List.{length-drop}
 use Rattle.pp_cache.specs.Memory.{Memory, is_in_memory}
@@ -14,13 +14,13 @@ use Rattle.pp_law.specs.Stages.{reply_of}
 use Rattle.pp_law.specs.State.{Client, Reply}
 use Rattle.pp_objects.specs.Instances.{is_there}
 use Rattle.pp_objects.specs.declared.id.ObjectId.{ObjectId}
-use Rattle.pp_seats.specs.Follows.{answer_in, at_of, next_at, next_by}
+use Rattle.pp_seats.specs.Follows.{answer_in, next_at, next_by}
 use Rattle.pp_seats.specs.declared.seat.Answer.{Answer}
 use Rattle.pp_seats.specs.declared.seat.Next.{Next as SeatNext}
 use Rattle.pp_seats.specs.declared.seat.Seat.{Seat}
 use Rattle.pp_seats_law.proofs.Stages.{replies}
 use Rattle.pp_seats_law.proofs.Uses.{interim_by}
-use Rattle.pp_seats_law.specs.Replies.{ShowsAnswer, ShowsInterim, ShowsSaid}
+use Rattle.pp_seats_law.specs.Replies.{ShowsInterim, ShowsSaid}
 use Rattle.pp_seats_law.specs.Seats.{ShowsOpen}
 use Rattle.pp_seats_law.specs.Words.{ShowsReply}
 use Rattle.pp_talk.specs.Talking.{offered, offered_in}

@@ -1,6 +1,6 @@
 -- The chunk of a client's next byte is read back (ours): that is noted where the law lets it, the bytes are those that the law puts into
 -- memory, and the turn shows the law's state behind it. What is said then is said with nothing to be read before.
-use Rattle.std.specs.Prelude.{◌≡◌, ◌<◌, ◌⊎◌, ℕ, [], ◌∷◌, List, length, Option, Some, None}
+use Rattle.std.specs.Prelude.{◌≡◌, ◌<◌, ◌⊎◌, ℕ, [], ◌∷◌, List, length, Option, None}
 use Rattle.pp_cache.specs.Bounds.{IsBounded}
 use Rattle.pp_due.specs.OnDisk.{next_on_disk}
 use Rattle.pp_law.specs.Lists.{Bytes}
