@@ -8,3 +8,4 @@ pub mod Nexts
 pub mod Read
 pub mod Said
 pub mod Unsaid
+pub mod Written
