@@ -1,7 +1,6 @@
 -- The entry of which the next byte is read, in the law and on the shelf.
-use Rattle.std.proofs.Common.{◌≡◌, ◌⊎◌, ◌<◌, ◌≤◌, inl, inr, refl, sym, subst, ap, ◌∙◌, ℕ, ◌-◌, ◌*◌, ◌/◌, ◌%◌, Bool, true, false, ◌||◌, not, cond, find, length, min, nat_lt, List, [], ◌∷◌, Option, Some, None, arith}
+use Rattle.std.proofs.Common.{◌≡◌, ◌⊎◌, ◌<◌, ◌≤◌, inl, inr, refl, sym, subst, ap, ◌∙◌, ℕ, ◌-◌, ◌*◌, ◌/◌, ◌%◌, Bool, true, false, not, cond, find, length, min, nat_lt, List, [], ◌∷◌, Option, Some, None, arith}
 use Rattle.std.proofs.lemmas.Bool.Decides.{nat_tests}
-use Rattle.std.specs.List.{list_any}
 use Rattle.std.specs.Prelude.{unwrap_or}
 use Rattle.pp_cache_law.proofs.Numbers.{some_is}
 use Rattle.pp_law.specs.Chunks.{chunk_bytes, filled, is_in_memory}
@@ -21,20 +20,8 @@ use Rattle.pp_shelf_law.specs.Shelf.{ShowsEntry}
 use Rattle.pp_store.specs.Kept.{IsExtent, Kept, KeptMap, kept_of, no_row, row_of}
 use Rattle.pp_target.specs.Name.{name_of}
 use Rattle.pp_valid.specs.declared.version.Version.{Version}
+use Rattle.pp_loads_law.proofs.Lists.{none_in}
 use Rattle.pp_loads_law.specs.Stands.{StandsOnDisk}
-
-none_in : {A : Type 0} (p : A → Bool) (x : A) (xs : List A) → list_any p xs ≡ false → IsIn x xs → p x ≡ false
-none_in p x [] none i = absurd i
-none_in p x (y ∷ ys) none (inl is) = ap p is ∙ first (p y) (list_any p ys) none
-  where
-    first : (a b : Bool) → (a || b) ≡ false → a ≡ false
-    first true b is = is
-    first false b is = refl
-none_in p x (y ∷ ys) none (inr i) = none_in p x ys (rest (p y) (list_any p ys) none) i
-  where
-    rest : (a b : Bool) → (a || b) ≡ false → b ≡ false
-    rest true b is = absurd (cc is)
-    rest false b is = is
 
 some_found : {A : Type 0} (p : A → Bool) (x : A) (xs : List A) → IsIn x xs → p x ≡ true → find p xs ≡ None → ⊥
 some_found p x [] i holds none = i

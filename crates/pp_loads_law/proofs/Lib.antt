@@ -1,6 +1,7 @@
 pub mod Back
 pub mod Bytes
 pub mod Entries
+pub mod Lists
 pub mod Loaded
 pub mod Losing
 pub mod Memory
@@ -8,4 +9,5 @@ pub mod Nexts
 pub mod Read
 pub mod Said
 pub mod Unsaid
+pub mod Unwritten
 pub mod Written

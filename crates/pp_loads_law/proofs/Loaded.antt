@@ -9,6 +9,7 @@ use Rattle.pp_law.specs.Store.{chunk_in_file, load, load_from}
 use Rattle.pp_law.specs.Table.{extent_of, instance, kept_row, row}
 use Rattle.pp_seats_law.proofs.Nexts.{found_number}
 use Rattle.pp_store.specs.Kept.{KeptMap}
+use Rattle.pp_loads_law.proofs.Lists.{off_by}
 use Rattle.pp_loads_law.specs.Reads.{IsLoaded}
 use Rattle.pp_loads_law.specs.Stands.{StandsOnDisk}
 
@@ -16,10 +17,6 @@ use Rattle.pp_loads_law.specs.Stands.{StandsOnDisk}
 
 abbrev new_chunk : ℕ → ℕ → Bytes → Chunk
 new_chunk id i bytes = record { instance = id; index = i; bytes = bytes }
-
-off_by : (b : Bool) → not b ≡ true → b ≡ false
-off_by true is = absurd (cc is)
-off_by false is = refl
 
 pub put_there : (id i : ℕ) (bytes : Bytes) (ds : List Chunk) → chunk_bytes id i (put_chunk id i bytes ds) ≡ bytes
 put_there id i bytes ds =

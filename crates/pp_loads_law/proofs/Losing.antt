@@ -7,7 +7,6 @@ use Rattle.std.specs.Prelude.{bytes_eq}
 use Rattle.pp_cache.specs.Bounds.{IsBounded}
 use Rattle.pp_cache.specs.Memory.{extent_of as bytes_kept, is_in_memory, stands as is_standing}
 use Rattle.pp_cache_law.proofs.Extents.{its_kept}
-use Rattle.pp_cache_law.proofs.Finds.{find_kept, find_out}
 use Rattle.pp_cache_law.proofs.Framing.{frames_of, the_same}
 use Rattle.pp_cache_law.proofs.Keeping.{losses_of}
 use Rattle.pp_cache_law.specs.Tables.{ShowsCache}
@@ -25,9 +24,10 @@ use Rattle.pp_law.specs.State.{State, Client, Entry, Instance as Known, Phase, I
 use Rattle.pp_law.specs.Store.{close_name, is_at_rest, is_closed, is_idle_disk, lose_entry, note_gone, remove_entry, removing}
 use Rattle.pp_law.specs.Table.{extent_of, is_entry_of, is_kept_row_of, is_next_held, next_of as next_of_law, pins, Next}
 use Rattle.pp_laws.proofs.Lists.{in_filter, in_find}
-use Rattle.pp_laws.proofs.Tests.{first_holds, second_holds}
+use Rattle.pp_laws.proofs.Tests.{first_holds}
 use Rattle.pp_laws.specs.Runs.{IsIn}
 use Rattle.pp_obeys.proofs.Moving.{leads_to}
+use Rattle.pp_obeys.proofs.Settled.{idle_so}
 use Rattle.pp_obeys.proofs.Silent.{both_hold, or_second}
 use Rattle.pp_obeys.specs.Moves.{Leads, Leaves, Moves}
 use Rattle.pp_objects.specs.Instances.{is_there}
@@ -56,59 +56,11 @@ use Rattle.pp_world.specs.declared.happening.Happening.TheVariants.{Noted, Unrea
 use Rattle.pp_world.specs.declared.note.Remark.TheVariants.{Gone}
 use Rattle.pp_world.specs.declared.op.DiskOp.TheVariants.{Remove}
 use Rattle.pp_loads_law.proofs.Entries.{IsReadOf}
+use Rattle.pp_loads_law.proofs.Lists.{all_same, any_none, kept_else, none_in, off_by}
 use Rattle.pp_loads_law.proofs.Memory.{steps_beside}
 use Rattle.pp_loads_law.proofs.Nexts.{IsSeen}
 use Rattle.pp_loads_law.specs.Losses.{IsFirstOwed, IsLost, LeadsOut, at_disk, without_entry}
 use Rattle.pp_loads_law.specs.Stands.{HaveOneVersion, AreWhole, StandsInEvent, StandsOnDisk}
-
--- ---- lists
-
-any_none : {A : Type 0} (p : A → Bool) (xs : List A) → ((x : A) → IsIn x xs → p x ≡ false) → list_any p xs ≡ false
-any_none p [] none = refl
-any_none p (x ∷ xs) none = ap₂ (λ (a b : Bool). a || b) (none x (inl refl)) (any_none p xs (λ y i. none y (inr i)))
-
-none_in : {A : Type 0} (p : A → Bool) (x : A) (xs : List A) → list_any p xs ≡ false → IsIn x xs → p x ≡ false
-none_in p x [] none i = absurd i
-none_in p x (y ∷ ys) none (inl is) = ap p is ∙ first (p y) (list_any p ys) none
-  where
-    first : (a b : Bool) → (a || b) ≡ false → a ≡ false
-    first true b is = is
-    first false b is = refl
-none_in p x (y ∷ ys) none (inr i) = none_in p x ys (rest (p y) (list_any p ys) none) i
-  where
-    rest : (a b : Bool) → (a || b) ≡ false → b ≡ false
-    rest true b is = absurd (cc is)
-    rest false b is = is
-
-off_by : (b : Bool) → not b ≡ true → b ≡ false
-off_by true is = absurd (cc is)
-off_by false is = refl
-
-and_false : (b : Bool) → (b && false) ≡ false
-and_false true = refl
-and_false false = refl
-
--- what is kept of each key, without the entry of one
-kept_else : (key k : Bytes) (es : List Entry) → (find (is_kept_row_of k) (without (is_entry_of key) es) ≡ None) ⊎ (find (is_kept_row_of k) (without (is_entry_of key) es) ≡ find (is_kept_row_of k) es)
-kept_else key k es = by (bytes_eq k key) refl
-  where
-    by : (b : Bool) → bytes_eq k key ≡ b → (find (is_kept_row_of k) (without (is_entry_of key) es) ≡ None) ⊎ (find (is_kept_row_of k) (without (is_entry_of key) es) ≡ find (is_kept_row_of k) es)
-    by true own =
-        inl (find_out (is_kept_row_of k) (λ d. not (is_entry_of key d)) es (λ d out. ap (λ (b : Bool). not d.is_stale && b) (ap (λ (j : Bytes). bytes_eq d.key j) (same_bytes k key own) ∙ off_by (is_entry_of key d) out) ∙ and_false (not d.is_stale)))
-    by false apart =
-        inr (find_kept (is_kept_row_of k) (λ d. not (is_entry_of key d)) es (λ d is. ap (λ (b : Bool). not b) (ap (λ (j : Bytes). bytes_eq j key) (same_bytes d.key k (second_holds (not d.is_stale) (bytes_eq d.key k) is)) ∙ apart)))
-
--- what changes none of them under one change, changes none under the other
-all_same : {A : Type 0} (f g : A → A) (xs : List A) → ((x : A) → f x ≡ x → g x ≡ x) → map f xs ≡ xs → map g xs ≡ xs
-all_same f g [] one same = refl
-all_same f g (x ∷ xs) one same =
-    let first : f x ≡ x = cc same in
-    let rest : map f xs ≡ xs = cc same in
-    ap₂ (λ y ys. y ∷ ys) (one x first) (all_same f g xs one rest)
-
-none_under_way : {A : Type 0} (o : Option A) → not (is_some o) ≡ true → o ≡ None
-none_under_way None is = refl
-none_under_way (Some op) is = absurd (cc is)
 
 module _ (number : ℕ → ℕ) (id : ℕ) (peers : List Peer) (p : Turn) (shelf : KeptMap) (seat : Seat) (n : SeatNext) (s : State) (stands : StandsInEvent number (WriteTo id) peers p shelf s) (w : IsSeen number id p s seat n) (r : IsReadOf shelf s w.known_next.source n.at) (to : IsLoadedNext s w.known_next.source r.entry (n.at / 4096)) (first : IsFirstOwed s) where
   abbrev x : Known
@@ -169,7 +121,7 @@ module _ (number : ℕ → ℕ) (id : ℕ) (peers : List Peer) (p : Turn) (shelf
   resting = record {
     none = stands.none;
     at = refl;
-    idle = none_under_way s.under_way (first_holds (is_idle_disk s) _ stands.disk.rests);
+    idle = idle_so s.under_way (first_holds (is_idle_disk s) _ stands.disk.rests);
     done = refl;
     shows = closed_shows;
   }

@@ -1,43 +1,25 @@
 -- A client is written to whose next byte is on the disk alone: behind the read of its chunk it is a write with nothing to be read before.
-use Rattle.std.proofs.Common.{◌≡◌, ◌⊎◌, ◌≤◌, inl, inr, refl, sym, subst, ap, ◌∙◌, ℕ, Bool, true, false, ◌&&◌, find, is_some, nat_lt, List, [], ◌∷◌, ◌++◌, Option, Some, None, append_assoc, arith, length}
+use Rattle.std.proofs.Common.{◌≡◌, ◌⊎◌, ◌≤◌, inl, inr, refl, sym, subst, ap, ◌∙◌, ℕ, List, [], ◌∷◌, ◌++◌, Option, Some, None, append_assoc, arith}
 use Rattle.std.specs.Option.{option_and_then}
-use Rattle.std.specs.Prelude.{count_by, slice_get, vec_capacity}
+use Rattle.std.specs.Prelude.{slice_get, vec_capacity}
 use Rattle.pp_cache.specs.Bounds.{IsBounded}
 use Rattle.pp_cache_law.proofs.Numbers.{some_is}
-use Rattle.pp_decides_law.proofs.Sitting.{is_at, shown_at}
-use Rattle.pp_decides_law.specs.Decides.{IsAtPlace}
-use Rattle.pp_desk.specs.Calls.{Took, write_log}
-use Rattle.pp_desk.specs.Replies.{EndsReplies}
-use Rattle.pp_endings_law.proofs.Walk.{IsGood}
-use Rattle.pp_events_law.proofs.Ends.{has_with}
-use Rattle.pp_events_law.proofs.HandledBehind.{behind_handled}
-use Rattle.pp_events_law.proofs.Newcomer.{rising}
-use Rattle.pp_events_law.proofs.Rests.{all_rest, none_ends}
 use Rattle.pp_events_law.specs.Hears.{AreSettled}
-use Rattle.pp_law.specs.Closing.{is_of}
-use Rattle.pp_law.specs.Connections.{is_exchange}
-use Rattle.pp_law.specs.Lists.{Bytes, has_number}
-use Rattle.pp_law.specs.Replies.{end_replies, regained}
-use Rattle.pp_laws.proofs.Lists.{in_find}
-use Rattle.pp_seats_law.specs.Seats.{ShowsSeat}
 use Rattle.pp_target.specs.Name.{name_of}
-use Rattle.pp_turns_law.proofs.Looked.{awake_loud, roused as roused_loud}
-use Rattle.pp_turns_law.specs.Marks.{AreLoud}
-use Rattle.std.proofs.lemmas.Option.{slice_get_within}
-use Rattle.pp_desk.specs.Closings.{Sides, peer_numbers, sides}
+use Rattle.pp_desk.specs.Closings.{peer_numbers, sides}
 use Rattle.pp_desk.specs.declared.desk.Desk.{Desk}
 use Rattle.pp_due.specs.OnDisk.{next_on_disk}
 use Rattle.pp_events_law.proofs.Standing.{awake_as, may_as, open_as}
 use Rattle.pp_events_law.proofs.Told.{sayings_lead}
 use Rattle.pp_events_law.specs.Says.{IsLastSaid, MaySay}
-use Rattle.pp_events_law.specs.Stands.{AreReadyAt, HasLed, IsAt, IsHandled, StandsAtEvent}
+use Rattle.pp_events_law.specs.Stands.{AreReadyAt, HasLed, IsAt, StandsAtEvent}
 use Rattle.pp_flow_law.specs.Tables.{none_leaves}
-use Rattle.pp_law.specs.After.{after, paid}
-use Rattle.pp_law.specs.State.{State, Client, Exchange, Owed, Term, Handling, Free, WriteTo}
+use Rattle.pp_law.specs.After.{after}
+use Rattle.pp_law.specs.State.{State, Owed, Term, Handling, Free, WriteTo}
 use Rattle.pp_law.specs.Store.{load}
 use Rattle.pp_laws_turn.proofs.Laws.{sound_turns}
 use Rattle.pp_laws_turn.specs.SoundTurn.{IsSoundTurn}
-use Rattle.pp_links.specs.Links.{AreOpen, IsLinked, Link, has_link}
+use Rattle.pp_links.specs.Links.{AreOpen, IsLinked, Link}
 use Rattle.pp_obeys.proofs.Moving.{lead_joined}
 use Rattle.pp_obeys.proofs.Obeying.{obeys_more}
 use Rattle.pp_obeys.specs.Obeys.{Obeys}
@@ -48,11 +30,10 @@ use Rattle.pp_seats.specs.declared.seat.Next.{Next}
 use Rattle.pp_seats.specs.declared.seat.Seat.{Seat}
 use Rattle.pp_shelf_law.proofs.Disks.{disks}
 use Rattle.pp_shelf_law.specs.Folder.{disk_of}
-use Rattle.pp_state.specs.Ends.{numbers_of, parts, place_of}
-use Rattle.pp_state.specs.Numbers.{with_number}
+use Rattle.pp_state.specs.Ends.{numbers_of, place_of}
 use Rattle.pp_state.specs.declared.state.State.{State as Turn}
 use Rattle.pp_talk.specs.Loading.{LoadsWhere}
-use Rattle.pp_talk.specs.Talking.{IsWritten, IsWrittenAt, offered, said_as}
+use Rattle.pp_talk.specs.Talking.{IsWrittenAt}
 use Rattle.pp_turns_law.specs.Rows.{AreReady}
 use Rattle.pp_turns_law.specs.Turns.{ShowsTurn}
 use Rattle.pp_world.proofs.CallLemmas.{told_after}
@@ -63,6 +44,7 @@ use Rattle.pp_world.specs.declared.happening.Happening.TheVariants.{Noted, Unrea
 use Rattle.pp_world.specs.declared.note.Remark.{Remark}
 use Rattle.pp_world.specs.declared.note.Remark.TheVariants.{Gone, Loaded}
 use Rattle.pp_loads_law.proofs.Back.{chunks_are_read_back}
+use Rattle.pp_loads_law.proofs.Unwritten.{handled_so, mid as unread_turn, mid_desk as unread_desk, told_none}
 use Rattle.pp_loads_law.specs.Losses.{HasLost, without_entry}
 use Rattle.pp_loads_law.specs.Reads.{HasRead, loaded_note}
 use Rattle.pp_loads_law.specs.Stands.{IsOnLog, IsToLoad, StandsInEvent}
@@ -161,10 +143,10 @@ module _ (terms : List Term) (before : Log) (number : ℕ → ℕ) (id i : ℕ) 
   -- ---- behind the read, where nobody is roused yet
 
   abbrev mid_desk : Desk
-  mid_desk = record read { state = record q { awake = old.state.awake } }
+  mid_desk = unread_desk x read
 
   abbrev mid : Turning
-  mid = record { shelf = y.shelf; moving = record { desk = mid_desk; links = x.moving.links; top = x.moving.top }; log = between; faults = says.says.count }
+  mid = unread_turn x read y.shelf between says.says.count
 
   same_peers : read.peers ≡ old.peers
   same_peers = ap (λ (d : Desk). d.peers) says.says.stays ∙ ap (λ (d : Desk). d.peers) was
@@ -305,99 +287,24 @@ module _ (terms : List Term) (before : Log) (number : ℕ → ℕ) (id i : ℕ) 
     stands_lost : StandsAtEvent number Handling Free mid.moving u
     stands_lost = stands_mid Free u same_lost law_lost at_lost r.stands.turn
 
-    ready_lost : AreReadyAt number mid.moving u
-    ready_lost = r.ready ready_roused
-
-    here_lost : slice_get q.seats.items i ≡ Some seat
-    here_lost = here_mid Free u same_lost law_lost at_lost r.stands.turn
-
-    still_lost : q.is_ticked ≡ false
-    still_lost = ticked_mid Free u same_lost law_lost at_lost r.stands.turn ∙ may.still
-
     settled_lost : AreSettled q.seats.items
     settled_lost j other at = may.settled j other (ap (λ (ss : List Seat). slice_get ss j) (sym (seats_mid Free u same_lost law_lost at_lost r.stands.turn)) ∙ at)
 
-    rouses_lost : Rouses i mid_desk read
-    rouses_lost = rouses_mid Free u same_lost law_lost at_lost r.stands.turn
-
-    -- ---- nothing is said
-
-    wrote : IsWritten i seat x.moving.links (sides read) says.says.says.0 between y.log
-    wrote = subst (λ (o : Option Seat). IsWrittenAt o i x.moving.links (sides read) says.says.says.0 between y.log) here_lost says.says.says.1
-
-    none_of : (b : Bool) → (b && false) ≡ false
-    none_of true = refl
-    none_of false = refl
-
-    not_some : (o : Took) → is_some o ≡ false → o ≡ None
-    not_some None is = refl
-    not_some (Some taken) is = absurd (cc is)
-
-    took_none : wrote.took ≡ None
-    took_none =
-        not_some wrote.took
-        (wrote.called ∙ ap (λ (bytes : Bytes). has_link seat.client.id x.moving.links && nat_lt 0 (length bytes)) r.none ∙ none_of (has_link seat.client.id x.moving.links))
-
-    next_is : says.says.says.0 ≡ sides read
-    next_is = wrote.is ∙ ap (λ (o : Took). said_as o i (sides read)) took_none
-
-    told_none : AppendsAll between y.log (λ l. [])
-    told_none = subst (λ (o : Took). AppendsAll between y.log (write_log seat.client.id (offered seat.client.reply q.cache) o)) took_none wrote.told
-
-    -- ---- and nothing ends
-
-    abbrev name : Bytes
-    name = mid_desk.state.name.items
-
-    sound : IsSoundTurn s
-    sound = sound_turns terms s before obeys
-
-    closing_at : (j : ℕ) (other : Seat) (d : Client) → IsAtPlace j (parts q) u other d → other.is_closing ≡ d.is_closing
-    closing_at j other d place =
-        let shown : ShowsSeat number name [] other d =
-        shown_at number name [] q.seats.items u.clients other.client.id j other d stands_lost.desk.turn.steps.shows.clients (is_at j q.seats.items other stands_lost.desk.turn.steps.order place.here) place.here place.there in
-        shown.closing
-
-    good : IsGood number name (sides read) u
-    good = record {
-      shows = record { steps = stands_lost.desk.turn.steps; may = stands_lost.desk.may };
-      may = record {
-        follow = λ j other d place on. (ready_lost j other place.here (closing_at j other d place ∙ on)).follows;
-        once = λ k. subst (λ (es : List Exchange). count_by (is_of k) es ≤ 1) (sym law_lost.exchanges) (sound.once k);
-        rests = λ k e there none. sound.rests e (in_find (is_exchange k) e s.exchanges (sym (ap (λ (es : List Exchange). find (is_exchange k) es) law_lost.exchanges) ∙ there)).0 none;
-      };
-      ends = λ j other d place on over. absurd (let both : true ≡ false = sym over ∙ (settled_lost j other place.here).said (closing_at j other d place ∙ on) in cc both);
-    }
-
-    awake_is : read.state.awake.items ≡ with_number i old.state.awake.items
-    awake_is = rouses_lost.awake (rising old.state.awake.items 0 (length mid_desk.state.seats.items) stands_lost.awake.order) may.looks
-
-    its_awake : has_number i read.state.awake.items ≡ true
-    its_awake = ap (λ (ns : List ℕ). has_number i ns) awake_is ∙ has_with i old.state.awake.items
-
-    is_loud : AreLoud read.state
-    is_loud = roused_loud mid_desk.state read.state i (awake_loud mid_desk.state stands_lost.awake) (slice_get_within q.seats.items i seat here_lost) awake_is refl
-
-    ended : IsHandled number y.moving (paid (end_replies u))
-    ended =
-        behind_handled number i mid y Free u stands_lost still_lost read rouses_lost is_loud its_awake (sides read) u good refl refl (λ j off. refl) refl
-        (subst (λ (z : Sides). EndsReplies read.state.awake.items z (sides y.moving.desk)) next_is says.says.says.2) (says.numbers ∙ sym (ap numbers_of (seats_mid Free u same_lost law_lost at_lost r.stands.turn))) says.says.rest says.links says.top bounded
-
-    none_more : end_replies u ≡ u
-    none_more = none_ends u (λ k d there. all_rest number name q.seats.items u.clients stands_lost.desk.turn.steps.shows.clients settled_lost k d there)
-
-    paid_same : paid u ≡ u
-    unfolding paid
-    paid_same = ap (λ (o : Owed). regained (record u { owed = o })) (sym r.stands.owes) ∙ r.anew
+    numbers_lost : numbers_of y.moving.desk.state.seats.items ≡ numbers_of q.seats.items
+    numbers_lost = says.numbers ∙ sym (ap numbers_of (seats_mid Free u same_lost law_lost at_lost r.stands.turn))
 
     was_lost : HasLostChunk number x y s
     was_lost = record {
       key = r.key;
-      told = told_then (Unread (name_of r.key) ∷ Noted (Gone r.key) ∷ []) [] r.told told_none;
+      told = told_then (Unread (name_of r.key) ∷ Noted (Gone r.key) ∷ []) [] r.told
+          (told_none number i x y read y.shelf between says.says.count seat s u stands_lost (r.ready ready_roused) (here_mid Free u same_lost law_lost at_lost r.stands.turn) (ticked_mid Free u same_lost law_lost at_lost r.stands.turn ∙ may.still) settled_lost
+          (rouses_mid Free u same_lost law_lost at_lost r.stands.turn) may.looks (sound_turns terms s before obeys) law_lost.exchanges r.none r.anew says.says.says says.says.rest numbers_lost says.links says.top bounded);
       leads = r.leads;
       map = r.map;
       disk = r.stands.disk;
-      handled = subst (λ (v : State). IsHandled number y.moving v) (ap paid none_more ∙ paid_same) ended;
+      handled =
+          handled_so number i x y read y.shelf between says.says.count seat s u stands_lost (r.ready ready_roused) (here_mid Free u same_lost law_lost at_lost r.stands.turn) (ticked_mid Free u same_lost law_lost at_lost r.stands.turn ∙ may.still) settled_lost
+          (rouses_mid Free u same_lost law_lost at_lost r.stands.turn) may.looks (sound_turns terms s before obeys) law_lost.exchanges r.none r.anew says.says.says says.says.rest numbers_lost says.links says.top bounded;
     }
 
   all : HasRead number id old.peers p q x.shelf y.shelf seat x.log between s ⊎ HasLost number old.peers p q x.shelf y.shelf seat x.log between s → HasLed number x y s ⊎ (IsLastOfRead number id i x y seat s ⊎ HasLostChunk number x y s)
