@@ -1,0 +1,13 @@
+pub mod Back
+pub mod Bytes
+pub mod Entries
+pub mod Lists
+pub mod Loaded
+pub mod Losing
+pub mod Memory
+pub mod Nexts
+pub mod Read
+pub mod Said
+pub mod Unsaid
+pub mod Unwritten
+pub mod Written

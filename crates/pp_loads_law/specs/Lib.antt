@@ -1,0 +1,4 @@
+pub mod Stands
+pub mod Reads
+pub mod Losses
+pub mod Writes
