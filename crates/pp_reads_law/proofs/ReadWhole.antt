@@ -115,37 +115,37 @@ not_early s k off = by (front_of_line s k) refl off
 
 -- ---- one piece behind the other
 
-module _ (comes : HeadsComeAsTheLaws) (name : Bytes) (shelf : KeptMap) (n : ℕ) (I : Both → State → Bytes → Type 0) (sup : Supplies name shelf n I) where
-  abbrev Ends : Both → State → Bytes → Type 0
-  Ends y s bytes = IsRead name y (got (length bytes) n bytes s)
+module _ (comes : HeadsComeAsTheLaws) (name : Bytes) (shelf : KeptMap) (n : ℕ) (y : Both) (I : Both → State → Bytes → Type 0) (sup : Supplies name shelf n y I) where
+  abbrev Ends : State → Bytes → Type 0
+  Ends s bytes = IsRead name y (got (length bytes) n bytes s)
 
   abbrev Between : ℕ → Type 0
-  Between most = (number : ℕ → ℕ) (x y : Both) (s : State) (bytes : Bytes) → I x s bytes → ShowsSides number name (sides_of x) s → 2 * length bytes + 1 < most → GotFrom most shelf n (Some (remaining bytes [])) x y → Ends y s bytes
+  Between most = (number : ℕ → ℕ) (x : Both) (s : State) (bytes : Bytes) → I x s bytes → ShowsSides number name (sides_of x) s → 2 * length bytes + 1 < most → GotFrom most shelf n (Some (remaining bytes [])) x y → Ends s bytes
 
   abbrev Amid : ℕ → Type 0
-  Amid most = (number : ℕ → ℕ) (x z y : Both) (s : State) (k : Conn) (a : Answer) (peer : Peer) (e : Exchange) (b : ℕ) (bytes : Bytes) (here : Remains) → I x s (b ∷ bytes) → ShowsSides number name (sides_of x) s → IsOpen s n k → k.answer ≡ Some a → IsWithinBody x s n k a peer e
-      → MayGo x.state s e (data_in a (b ∷ bytes)) → IsAmidBody x z n peer a (b ∷ bytes) here → 2 * length here.bytes + 1 < most → ((r : ℕ) → r ≤ length here.bytes → r < length (b ∷ bytes) → 2 * r + 2 < most) → GotFrom most shelf n (Some here) z y → Ends y s (b ∷ bytes)
+  Amid most = (number : ℕ → ℕ) (x z : Both) (s : State) (k : Conn) (a : Answer) (peer : Peer) (e : Exchange) (b : ℕ) (bytes : Bytes) (here : Remains) → I x s (b ∷ bytes) → ShowsSides number name (sides_of x) s → IsOpen s n k → k.answer ≡ Some a → IsWithinBody x s n k a peer e
+      → MayGo x.state s e (data_in a (b ∷ bytes)) → IsAmidBody x z n peer a (b ∷ bytes) here → 2 * length here.bytes + 1 < most → ((r : ℕ) → r ≤ length here.bytes → r < length (b ∷ bytes) → 2 * r + 2 < most) → GotFrom most shelf n (Some here) z y → Ends s (b ∷ bytes)
 
   -- the read is over, or a piece follows
-  over : (number : ℕ → ℕ) (m : ℕ) (next y : Both) (s t : State) (bytes : Bytes) (behind : Option Remains) → behind ≡ None → GotFrom m shelf n behind next y → got (length bytes) n bytes s ≡ t → ShowsSides number name (sides_of next) t → Ends y s bytes
-  over number m next y s t bytes behind none run law shown = record {
+  over : (number : ℕ → ℕ) (m : ℕ) (next : Both) (s t : State) (bytes : Bytes) (behind : Option Remains) → behind ≡ None → GotFrom m shelf n behind next y → got (length bytes) n bytes s ≡ t → ShowsSides number name (sides_of next) t → Ends s bytes
+  over number m next s t bytes behind none run law shown = record {
     number = number;
     shows =
         subst (λ (u : State). ShowsSides number name (sides_of y) u) (sym law)
         (subst (λ (z : Both). ShowsSides number name (sides_of z) t) (sym (stopped m n shelf next y (subst (λ (o : Option Remains). GotFrom m shelf n o next y) none run))) shown);
   }
 
-  follows : (number : ℕ → ℕ) (m less : ℕ) (next y : Both) (s t : State) (bytes rest : Bytes) (behind : Option Remains) → Between m → behind ≡ Some (remaining rest []) → GotFrom m shelf n behind next y → got (length bytes) n bytes s ≡ got less n rest t → length rest ≤ less → I next t rest
-      → ShowsSides number name (sides_of next) t → 2 * length rest + 1 < m → Ends y s bytes
-  follows number m less next y s t bytes rest behind between leaves run law enough holds shown fuel =
-      let one : Ends y t rest = between number next y t rest holds shown fuel (subst (λ (o : Option Remains). GotFrom m shelf n o next y) leaves run) in
+  follows : (number : ℕ → ℕ) (m less : ℕ) (next : Both) (s t : State) (bytes rest : Bytes) (behind : Option Remains) → Between m → behind ≡ Some (remaining rest []) → GotFrom m shelf n behind next y → got (length bytes) n bytes s ≡ got less n rest t → length rest ≤ less → I next t rest
+      → ShowsSides number name (sides_of next) t → 2 * length rest + 1 < m → Ends s bytes
+  follows number m less next s t bytes rest behind between leaves run law enough holds shown fuel =
+      let one : Ends t rest = between number next t rest holds shown fuel (subst (λ (o : Option Remains). GotFrom m shelf n o next y) leaves run) in
       record { number = one.number; shows = subst (λ (u : State). ShowsSides one.number name (sides_of y) u) (sym (law ∙ sup.enough less next t rest holds enough)) one.shows }
 
   -- ---- amid a body
 
   amid_next : (m : ℕ) → Between m → Amid m → Amid (suc m)
   unfolding GotFrom
-  amid_next m between amid number x z y s k a peer e b bytes here holds shows opens has it may on fuel room run =
+  amid_next m between amid number x z s k a peer e b bytes here holds shows opens has it may on fuel room run =
       by (steps number name shelf x z run.0 s n k a peer e (b ∷ bytes) here run.1 shows it may on run.2)
     where
       law : got (length (b ∷ bytes)) n (b ∷ bytes) s ≡ got (length bytes) n (body_piece k a (b ∷ bytes) s).rest (body_piece k a (b ∷ bytes) s).state
@@ -154,26 +154,26 @@ module _ (comes : HeadsComeAsTheLaws) (name : Bytes) (shelf : KeptMap) (n : ℕ)
       fewer : length (body_piece k a (b ∷ bytes) s).rest < length (b ∷ bytes)
       fewer = sup.fewer x s k a b bytes holds opens has
 
-      ends : (o : Option Remains) → run.1 ≡ o → LeavesBytes o (body_piece k a (b ∷ bytes) s).rest → PieceIsOver number name run.0 s k a (b ∷ bytes) run.1 → Ends y s (b ∷ bytes)
-      ends None is none piece = over number m run.0 y s (body_piece k a (b ∷ bytes) s).state (b ∷ bytes) run.1 is run.3 (law ∙ ap (λ (bs : Bytes). got (length bytes) n bs (body_piece k a (b ∷ bytes) s).state) none ∙ got_nothing (length bytes) n (body_piece k a (b ∷ bytes) s).state) piece.shows
+      ends : (o : Option Remains) → run.1 ≡ o → LeavesBytes o (body_piece k a (b ∷ bytes) s).rest → PieceIsOver number name run.0 s k a (b ∷ bytes) run.1 → Ends s (b ∷ bytes)
+      ends None is none piece = over number m run.0 s (body_piece k a (b ∷ bytes) s).state (b ∷ bytes) run.1 is run.3 (law ∙ ap (λ (bs : Bytes). got (length bytes) n bs (body_piece k a (b ∷ bytes) s).state) none ∙ got_nothing (length bytes) n (body_piece k a (b ∷ bytes) s).state) piece.shows
       ends (Some later) is same piece =
           let long : length later.bytes ≤ length here.bytes = not_longer n shelf (going_on (find (is_number n) z.peers)) here later z run.0 run.1 is run.2 in
           let low : length (body_piece k a (b ∷ bytes) s).rest ≤ length here.bytes = subst (λ (r : Remains). length r.bytes ≤ length here.bytes) same long in
-          follows number m (length bytes) run.0 y s (body_piece k a (b ∷ bytes) s).state (b ∷ bytes) (body_piece k a (b ∷ bytes) s).rest run.1 between (is ∙ ap (λ (r : Remains). Some r) same) run.3 law (omega (arith, fewer))
-          (sup.behind number x z run.0 s k a peer e (b ∷ bytes) here run.1 holds it on run.2 piece) piece.shows (omega (arith, room (length (body_piece k a (b ∷ bytes) s).rest) low fewer))
+          follows number m (length bytes) run.0 s (body_piece k a (b ∷ bytes) s).state (b ∷ bytes) (body_piece k a (b ∷ bytes) s).rest run.1 between (is ∙ ap (λ (r : Remains). Some r) same) run.3 law (omega (arith, fewer))
+          (sup.behind number x z run.0 s k a peer e (b ∷ bytes) here run.1 m holds it on run.2 run.3 piece) piece.shows (omega (arith, room (length (body_piece k a (b ∷ bytes) s).rest) low fewer))
 
-      by : GoesOnAmid x run.0 n peer a (b ∷ bytes) here run.1 ⊎ PieceIsOver number name run.0 s k a (b ∷ bytes) run.1 → Ends y s (b ∷ bytes)
+      by : GoesOnAmid x run.0 n peer a (b ∷ bytes) here run.1 ⊎ PieceIsOver number name run.0 s k a (b ∷ bytes) run.1 → Ends s (b ∷ bytes)
       by (inl later) =
-          amid number x run.0 y s k a peer e b bytes later.later holds shows opens has it may later.amid (omega (arith, fuel, later.fewer)) (λ r low small. omega (arith, fuel, low, later.fewer))
+          amid number x run.0 s k a peer e b bytes later.later holds shows opens has it may later.amid (omega (arith, fuel, later.fewer)) (λ r low small. omega (arith, fuel, low, later.fewer))
           (subst (λ (o : Option Remains). GotFrom m shelf n o run.0 y) later.leaves run.3)
       by (inr piece) = ends run.1 refl piece.leaves piece
 
   -- ---- a final head came
 
-  module _ (number : ℕ → ℕ) (m : ℕ) (between : Between m) (below : (j : ℕ) → m ≡ suc j → Between j) (x next y : Both) (s : State) (k : Conn) (e : Exchange) (b : ℕ) (bytes : Bytes) (behind : Option Remains) (holds : I x s (b ∷ bytes)) (named : s.settings.name ≡ name) (fuel : 2 * length (b ∷ bytes) + 1 < suc m) (run : GotFrom m shelf n behind next y)
+  module _ (number : ℕ → ℕ) (m : ℕ) (between : Between m) (below : (j : ℕ) → m ≡ suc j → Between j) (x next : Both) (s : State) (k : Conn) (e : Exchange) (b : ℕ) (bytes : Bytes) (behind : Option Remains) (holds : I x s (b ∷ bytes)) (named : s.settings.name ≡ name) (fuel : 2 * length (b ∷ bytes) + 1 < suc m) (run : GotFrom m shelf n behind next y)
       (it : HeadIsGotThere number shelf x next s n k e (b ∷ bytes) behind) where
-    abbrev given : SuppliesHead shelf n I next s e (b ∷ bytes) behind it.there.begin it.there.then it.there.before it.there.peer it.got
-    given = sup.heads number x next s k e (b ∷ bytes) behind holds it.there it.got
+    abbrev given : SuppliesHead shelf n y I next s e (b ∷ bytes) behind it.there.begin it.there.then it.there.before it.there.peer it.got
+    given = sup.heads number x next s k e (b ∷ bytes) behind m holds run it.there it.got
 
     abbrev rest : Bytes
     rest = it.got.rest
@@ -190,11 +190,11 @@ module _ (comes : HeadsComeAsTheLaws) (name : Bytes) (shelf : KeptMap) (n : ℕ)
     at_name : (number1 : ℕ → ℕ) (z : Both) (u : State) → ShowsSides number1 then.settings.name (sides_of z) u → ShowsSides number1 name (sides_of z) u
     at_name number1 z u shown = subst (λ (own : Bytes). ShowsSides number1 own (sides_of z) u) own_name shown
 
-    goes_on : (number1 : ℕ → ℕ) → ShowsSides number1 then.settings.name (sides_of next) t → I next t rest → Ends y s (b ∷ bytes)
+    goes_on : (number1 : ℕ → ℕ) → ShowsSides number1 then.settings.name (sides_of next) t → I next t rest → Ends s (b ∷ bytes)
     goes_on number1 shown holds_then =
-        follows number1 m it.got.less next y s t (b ∷ bytes) rest behind between it.got.leaves run it.got.law it.got.enough holds_then (at_name number1 next t shown) (omega (arith, fuel, it.got.fewer))
+        follows number1 m it.got.less next s t (b ∷ bytes) rest behind between it.got.leaves run it.got.law it.got.enough holds_then (at_name number1 next t shown) (omega (arith, fuel, it.got.fewer))
 
-    taken_at : (taken : HeadIsTaken next then n it.there.before e it.got.head it.got.rule) → is_wrong_head e it.got.head ≡ false → ((body_of it.got.rule []).outcome ≡ Going) ⊎ ((body_of it.got.rule []).outcome ≡ Done []) → Ends y s (b ∷ bytes)
+    taken_at : (taken : HeadIsTaken next then n it.there.before e it.got.head it.got.rule) → is_wrong_head e it.got.head ≡ false → ((body_of it.got.rule []).outcome ≡ Going) ⊎ ((body_of it.got.rule []).outcome ≡ Done []) → Ends s (b ∷ bytes)
     unfolding GotFrom end_if_empty
     taken_at taken right (inl going) =
         goes_on taken.number
@@ -209,52 +209,52 @@ module _ (comes : HeadsComeAsTheLaws) (name : Bytes) (shelf : KeptMap) (n : ℕ)
         (shows_there shelf it.there.begin next then n it.there.before e it.there.peer it.got.head it.got.rule it.there.shows.may it.there.due taken (given.end right))) (given.holds (inr going))
     taken_at taken right (inr done) = by m refl (subst (λ (o : Option Remains). GotFrom m shelf n o next y) it.got.leaves run)
       where
-        by : (i : ℕ) → m ≡ i → GotFrom i shelf n (Some (remaining rest [])) next y → Ends y s (b ∷ bytes)
+        by : (i : ℕ) → m ≡ i → GotFrom i shelf n (Some (remaining rest [])) next y → Ends s (b ∷ bytes)
         by zero is last = absurd (omega (arith, fuel, is))
         by (suc j) is last =
             let one : EndsAtOnce taken.number last.0 then it.there.before it.got.head rest last.1 =
             empties_end shelf it.there.begin next last.0 then n it.there.before e it.there.peer it.got.head it.got.rule [] rest last.1 it.there.shows.may it.there.due taken (given.end right) done last.2 in
-            follows taken.number j it.got.less last.0 y s t (b ∷ bytes) rest last.1 (below j is) one.leaves last.3 it.got.law it.got.enough (given.ends last.0 last.1 right done last.2) (at_name taken.number last.0 t one.shows)
+            follows taken.number j it.got.less last.0 s t (b ∷ bytes) rest last.1 (below j is) one.leaves last.3 it.got.law it.got.enough (given.ends last.0 last.1 j right done last.2 last.3) (at_name taken.number last.0 t one.shows)
             (omega (arith, fuel, is, it.got.fewer))
 
-    head_got : Ends y s (b ∷ bytes)
+    head_got : Ends s (b ∷ bytes)
     head_got =
         by (is_wrong_head e it.got.head) refl
         (comes number shelf it.there.begin next then n it.there.before e it.there.peer it.got.head it.got.rule it.got.left it.there.shows it.there.due it.got.read given.may it.got.came given.given given.refused)
       where
-        by : (c : Bool) → is_wrong_head e it.got.head ≡ c → HeadLeads c next then n it.there.before e it.got.head it.got.rule → Ends y s (b ∷ bytes)
+        by : (c : Bool) → is_wrong_head e it.got.head ≡ c → HeadLeads c next then n it.there.before e it.got.head it.got.rule → Ends s (b ∷ bytes)
         by true is refused = goes_on refused.number refused.shows (given.holds (inl is))
         by false is taken = taken_at taken is (empty_or_going it.got.rule)
 
   -- ---- between two pieces
 
-  module _ (number : ℕ → ℕ) (m : ℕ) (between : Between m) (amid_more : Amid (suc m)) (below : (j : ℕ) → m ≡ suc j → Between j) (x y : Both) (s : State) (shows : ShowsSides number name (sides_of x) s) where
+  module _ (number : ℕ → ℕ) (m : ℕ) (between : Between m) (amid_more : Amid (suc m)) (below : (j : ℕ) → m ≡ suc j → Between j) (x : Both) (s : State) (shows : ShowsSides number name (sides_of x) s) where
     -- none, or it is closing
-    gone : (bytes : Bytes) → going_on (find (is_number n) x.peers) ≡ None → got (length bytes) n bytes s ≡ s → GotFrom (suc m) shelf n (Some (remaining bytes [])) x y → Ends y s bytes
+    gone : (bytes : Bytes) → going_on (find (is_number n) x.peers) ≡ None → got (length bytes) n bytes s ≡ s → GotFrom (suc m) shelf n (Some (remaining bytes [])) x y → Ends s bytes
     unfolding GotFrom
     gone bytes none law run =
         let on : (run.0 ≡ x) × (run.1 ≡ None) = subst (λ (o : Option Peer). IsStepOn o shelf n (remaining bytes []) x run.0 run.1) none run.2 in
-        over number m run.0 y s s bytes run.1 on.1 run.3 law (subst (λ (z : Both). ShowsSides number name (sides_of z) s) (sym on.0) shows)
+        over number m run.0 s s bytes run.1 on.1 run.3 law (subst (λ (z : Both). ShowsSides number name (sides_of z) s) (sym on.0) shows)
 
     -- no byte is left
-    at_end : (k : Conn) (o : Option Answer) → IsOpen s n k → k.answer ≡ o → I x s [] → GotFrom (suc m) shelf n (Some (remaining [] [])) x y → Ends y s []
+    at_end : (k : Conn) (o : Option Answer) → IsOpen s n k → k.answer ≡ o → I x s [] → GotFrom (suc m) shelf n (Some (remaining [] [])) x y → Ends s []
     unfolding GotFrom
     at_end k None opens has holds run =
         let own : HasPeer s n x.peers k = linked s n x.peers s.conns k opens.there shows.steps.shows.conns in
         let one : (run.1 ≡ None) × (run.0 ≡ x) = empty_steps number name shelf x run.0 s n k own.peer run.1 shows opens own.there has run.2 in
-        over number m run.0 y s s [] run.1 one.0 run.3 (got_nothing 0 n s) (subst (λ (z : Both). ShowsSides number name (sides_of z) s) (sym one.1) shows)
+        over number m run.0 s s [] run.1 one.0 run.3 (got_nothing 0 n s) (subst (λ (z : Both). ShowsSides number name (sides_of z) s) (sym one.1) shows)
     at_end k (Some a) opens has holds run =
         let body : SuppliesBody x s n k a [] = sup.bodies x s k a [] holds opens has in
         let one : StandsStill number name run.0 s run.1 = pauses number name shelf x run.0 s n k a body.peer run.1 shows opens body.within.on.linked has body.going run.2 in
-        over number m run.0 y s s [] run.1 one.leaves run.3 (got_nothing 0 n s) one.shows
+        over number m run.0 s s [] run.1 one.leaves run.3 (got_nothing 0 n s) one.shows
 
     -- a head is awaited
-    at_head : (k : Conn) (b : ℕ) (bytes : Bytes) (early : Bool) → IsOpen s n k → k.answer ≡ None → is_early s k ≡ early → I x s (b ∷ bytes) → 2 * length (b ∷ bytes) + 1 < suc m → GotFrom (suc m) shelf n (Some (remaining (b ∷ bytes) [])) x y → Ends y s (b ∷ bytes)
+    at_head : (k : Conn) (b : ℕ) (bytes : Bytes) (early : Bool) → IsOpen s n k → k.answer ≡ None → is_early s k ≡ early → I x s (b ∷ bytes) → 2 * length (b ∷ bytes) + 1 < suc m → GotFrom (suc m) shelf n (Some (remaining (b ∷ bytes) [])) x y → Ends s (b ∷ bytes)
     unfolding GotFrom
     at_head k b bytes true opens has early holds fuel run =
         let own : HasPeer s n x.peers k = linked s n x.peers s.conns k opens.there shows.steps.shows.conns in
         let one : ComesEarly number name run.0 s k (b ∷ bytes) run.1 = early_steps number name shelf x run.0 s n k own.peer b bytes run.1 shows opens own.there has early run.2 in
-        over number m run.0 y s (close_conn true k s) (b ∷ bytes) run.1 one.leaves run.3
+        over number m run.0 s (close_conn true k s) (b ∷ bytes) run.1 one.leaves run.3
         (got_step (length bytes) n b bytes s k opens
         ∙ ap (λ (o : Option Answer). let p : Piece = elim o as (λ p. Piece) [ Some c ↦ body_piece k c (b ∷ bytes) s | None ↦ head_piece k (b ∷ bytes) s ] in got (length bytes) n p.rest p.state) has
         ∙ ap (λ (p : Piece). got (length bytes) n p.rest p.state) one.law
@@ -282,35 +282,35 @@ module _ (comes : HeadsComeAsTheLaws) (name : Bytes) (shelf : KeptMap) (n : ℕ)
         due : HeadIsDue x s n k first.first own.peer
         due = record { due = is_due; none = awaits.none; linked = own.there; asks = awaits.asks }
 
-        by : StopsThere number run.0 s n (b ∷ bytes) run.1 ⊎ HeadIsGotThere number shelf x run.0 s n k first.first (b ∷ bytes) run.1 → Ends y s (b ∷ bytes)
+        by : StopsThere number run.0 s n (b ∷ bytes) run.1 ⊎ HeadIsGotThere number shelf x run.0 s n k first.first (b ∷ bytes) run.1 → Ends s (b ∷ bytes)
         by (inl stops) =
-            over number m run.0 y s (got (length (b ∷ bytes)) n (b ∷ bytes) s) (b ∷ bytes) run.1 stops.leaves run.3 refl
+            over number m run.0 s (got (length (b ∷ bytes)) n (b ∷ bytes) s) (b ∷ bytes) run.1 stops.leaves run.3 refl
             (subst (λ (own : Bytes). ShowsSides number own (sides_of run.0) (got (length (b ∷ bytes)) n (b ∷ bytes) s)) stands.named stops.shows)
-        by (inr it) = head_got number m between below x run.0 y s k first.first b bytes run.1 holds stands.named fuel run.3 it
+        by (inr it) = head_got number m between below x run.0 s k first.first b bytes run.1 holds stands.named fuel run.3 it
 
     -- a body goes on
-    at_body : (k : Conn) (a : Answer) (b : ℕ) (bytes : Bytes) → IsOpen s n k → k.answer ≡ Some a → I x s (b ∷ bytes) → 2 * length (b ∷ bytes) + 1 < suc m → GotFrom (suc m) shelf n (Some (remaining (b ∷ bytes) [])) x y → Ends y s (b ∷ bytes)
+    at_body : (k : Conn) (a : Answer) (b : ℕ) (bytes : Bytes) → IsOpen s n k → k.answer ≡ Some a → I x s (b ∷ bytes) → 2 * length (b ∷ bytes) + 1 < suc m → GotFrom (suc m) shelf n (Some (remaining (b ∷ bytes) [])) x y → Ends s (b ∷ bytes)
     at_body k a b bytes opens has holds fuel run =
         let body : SuppliesBody x s n k a (b ∷ bytes) = sup.bodies x s k a (b ∷ bytes) holds opens has in
-        amid_more number x x y s k a body.peer body.exchange b bytes (remaining (b ∷ bytes) []) holds shows opens has body.within body.may
+        amid_more number x x s k a body.peer body.exchange b bytes (remaining (b ∷ bytes) []) holds shows opens has body.within body.may
         (begins number name x s n k a body.peer body.exchange (b ∷ bytes) shows body.within) fuel (λ r low small. omega (arith, fuel, small)) run
 
-    at_open : (k : Conn) (o : Option Answer) (bytes : Bytes) → IsOpen s n k → k.answer ≡ o → I x s bytes → 2 * length bytes + 1 < suc m → GotFrom (suc m) shelf n (Some (remaining bytes [])) x y → Ends y s bytes
+    at_open : (k : Conn) (o : Option Answer) (bytes : Bytes) → IsOpen s n k → k.answer ≡ o → I x s bytes → 2 * length bytes + 1 < suc m → GotFrom (suc m) shelf n (Some (remaining bytes [])) x y → Ends s bytes
     at_open k o [] opens has holds fuel run = at_end k o opens has holds run
     at_open k None (b ∷ bytes) opens has holds fuel run = at_head k b bytes (is_early s k) opens has refl holds fuel run
     at_open k (Some a) (b ∷ bytes) opens has holds fuel run = at_body k a b bytes opens has holds fuel run
 
-    piece_next : (bytes : Bytes) → I x s bytes → 2 * length bytes + 1 < suc m → GotFrom (suc m) shelf n (Some (remaining bytes [])) x y → Ends y s bytes
+    piece_next : (bytes : Bytes) → I x s bytes → 2 * length bytes + 1 < suc m → GotFrom (suc m) shelf n (Some (remaining bytes [])) x y → Ends s bytes
     piece_next bytes holds fuel run = by (conn s n) refl
       where
-        at : (k : Conn) (c : Bool) → conn s n ≡ Some k → k.is_closing ≡ c → Ends y s bytes
+        at : (k : Conn) (c : Bool) → conn s n ≡ Some k → k.is_closing ≡ c → Ends s bytes
         at k true is closing =
             let own : HasPeer s n x.peers k = linked s n x.peers s.conns k is shows.steps.shows.conns in
             gone bytes (ap (λ (o : Option Peer). going_on o) own.there ∙ ap (λ (b : Bool). cond b None (Some own.peer)) (own.shows.is_closing ∙ closing))
             (closed_got (length bytes) n bytes s (λ j there. ap (λ (i : Conn). i.is_closing) (some_is j k (sym there ∙ is)) ∙ closing)) run
         at k false is opens = at_open k k.answer bytes (record { there = is; goes_on = opens }) refl holds fuel run
 
-        by : (o : Option Conn) → conn s n ≡ o → Ends y s bytes
+        by : (o : Option Conn) → conn s n ≡ o → Ends s bytes
         by None is =
             gone bytes (ap (λ (o : Option Peer). going_on o) (none_there n s x.peers s.conns shows.steps.shows.conns is)) (closed_got (length bytes) n bytes s (λ j there. absurd (none_some j (sym is ∙ there)))) run
         by (Some k) is = at k k.is_closing is refl
@@ -324,15 +324,15 @@ module _ (comes : HeadsComeAsTheLaws) (name : Bytes) (shelf : KeptMap) (n : ℕ)
 
   claims : (m : ℕ) → Claims m
   claims zero = record {
-    between = λ number x y s bytes holds shows fuel run. absurd (omega (arith, fuel));
-    amid = λ number x z y s k a peer e b bytes here holds shows opens has it may on fuel room run. absurd (omega (arith, fuel));
+    between = λ number x s bytes holds shows fuel run. absurd (omega (arith, fuel));
+    amid = λ number x z s k a peer e b bytes here holds shows opens has it may on fuel room run. absurd (omega (arith, fuel));
     below = λ j is. absurd (omega (arith, is));
   }
   claims (suc m) =
       let one : Claims m = claims m in
       let amid_more : Amid (suc m) = amid_next m one.between one.amid in
       record {
-        between = λ number x y s bytes holds shows fuel run. piece_next number m one.between amid_more one.below x y s shows bytes holds fuel run;
+        between = λ number x s bytes holds shows fuel run. piece_next number m one.between amid_more one.below x s shows bytes holds fuel run;
         amid = amid_more;
         below = λ j is. subst (λ (i : ℕ). Between i) (ap (λ (i : ℕ). pred i) is) one.between;
       }
@@ -341,4 +341,4 @@ module _ (comes : HeadsComeAsTheLaws) (name : Bytes) (shelf : KeptMap) (n : ℕ)
   read_whole most = (claims most).between
 
 pub reads_got : HeadsComeAsTheLaws → ReadsAreGotAsTheLaws
-reads_got comes number name shelf test x y s n bytes sup holds shows few run = read_whole comes name shelf n (Passes test) sup 65600 number x y s bytes holds shows (omega (arith, few)) run
+reads_got comes number name shelf test x y s n bytes sup holds shows few run = read_whole comes name shelf n y (Passes test) sup 65600 number x s bytes holds shows (omega (arith, few)) run

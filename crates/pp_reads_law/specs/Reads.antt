@@ -1,7 +1,7 @@
 -- A whole read of a connection to an origin is what the law gets of its bytes, one piece behind the other (RFC 2616, sections 4.4, 6, 8.1 and 10.1).
 --
 -- Between two pieces of the law stand both sides, with the bytes that are left: of each such moment holds whatever supplies what the next piece
--- rests on.
+-- rests on. A step may end in several ways, as memory may be refused: supplied is what those rest on from which this read went on to where it ended.
 use Rattle.std.specs.Prelude.{◌≡◌, ◌⊎◌, ◌≤◌, ◌<◌, ℕ, Bool, true, false, [], ◌∷◌, length, Option, Some, None}
 use Rattle.std.specs.List.{find}
 use Rattle.pp_closings_law.specs.Sides.{ShowsSides}
@@ -16,7 +16,7 @@ use Rattle.pp_law.specs.OwnHeads.{is_wrong_head}
 use Rattle.pp_law.specs.Responses.{asks_head, body_piece, got, head_came}
 use Rattle.pp_law.specs.Stages.{is_headed}
 use Rattle.pp_law.specs.State.{State, Answer, Conn, Exchange}
-use Rattle.pp_origins.specs.Gots.{Both, HasGot, IsStepOn, Remains, going_on, remaining, sides_of}
+use Rattle.pp_origins.specs.Gots.{Both, GotFrom, HasGot, IsStepOn, Remains, going_on, remaining, sides_of}
 use Rattle.pp_peers.specs.Peers.{is_number}
 use Rattle.pp_peers.specs.declared.peers.Peer.{Peer}
 use Rattle.pp_state.specs.Ends.{parts}
@@ -43,14 +43,14 @@ pub record IsAwaited (x : Both) (k : Conn) (e : Exchange) : Type 0 where
   pub asks : (y : Entry) → entry_of e.number x.state.flow ≡ Some y → y.errand.asks_head ≡ asks_head e
 
 -- a head came: it may be answered, memory is refused for no row, and where it goes on whatever supplies it holds, too
-pub record SuppliesHead (shelf : KeptMap) (n : ℕ) (I : Both → State → Bytes → Type 0) (next : Both) (s : State) (e : Exchange) (bytes : Bytes) (behind : Option Remains) (begin : Both) (then : State) (before : Conn) (peer : Peer) (it : HeadIsGot shelf next s n e bytes behind begin then before peer) : Type 0 where
+pub record SuppliesHead (shelf : KeptMap) (n : ℕ) (y : Both) (I : Both → State → Bytes → Type 0) (next : Both) (s : State) (e : Exchange) (bytes : Bytes) (behind : Option Remains) (begin : Both) (then : State) (before : Conn) (peer : Peer) (it : HeadIsGot shelf next s n e bytes behind begin then before peer) : Type 0 where
   pub may : MayAnswer then e it.head
   pub given : IsGivenHead (first_on n (parts begin.state)) shelf n (with_head n peer it.left begin) next it.came
   pub refused : next.state.refused ≡ []
   pub end : is_wrong_head e it.head ≡ false → MayEnd then before e it.head it.rule
   pub holds : (is_wrong_head e it.head ≡ true) ⊎ ((body_of it.rule []).outcome ≡ Going) → I next (head_came before it.head then) it.rest
   -- and of an empty body, behind the step that ends it
-  pub ends : (last : Both) (after : Option Remains) → is_wrong_head e it.head ≡ false → (body_of it.rule []).outcome ≡ Done [] → IsStepOn (going_on (find (is_number n) next.peers)) shelf n (remaining it.rest []) next last after → I last (head_came before it.head then) it.rest
+  pub ends : (last : Both) (after : Option Remains) (more : ℕ) → is_wrong_head e it.head ≡ false → (body_of it.rule []).outcome ≡ Done [] → IsStepOn (going_on (find (is_number n) next.peers)) shelf n (remaining it.rest []) next last after → GotFrom more shelf n after last y → I last (head_came before it.head then) it.rest
 
 -- a body goes on: its exchange is the first of the line, and its data may go where they are bound
 pub record SuppliesBody (x : Both) (s : State) (n : ℕ) (k : Conn) (a : Answer) (bytes : Bytes) : Type 0 where
@@ -60,7 +60,7 @@ pub record SuppliesBody (x : Both) (s : State) (n : ℕ) (k : Conn) (a : Answer)
   pub may : MayGo x.state s exchange (data_in a bytes)
   pub going : (body_of a.rule a.raw).outcome ≡ Going
 
-pub record Supplies (name : Bytes) (shelf : KeptMap) (n : ℕ) (I : Both → State → Bytes → Type 0) : Type 0 where
+pub record Supplies (name : Bytes) (shelf : KeptMap) (n : ℕ) (y : Both) (I : Both → State → Bytes → Type 0) : Type 0 where
   -- from wait to wait, and as ShowsRead of Amid has it
   pub stands : (number : ℕ → ℕ) (x : Both) (s : State) (bytes : Bytes) → I x s bytes → ShowsSides number name (sides_of x) s → StandsThere number name shelf x s
   -- of the law alone: each piece takes a byte at least, so that no more pieces than bytes come. What stands unread is no head, and what came of
@@ -70,12 +70,12 @@ pub record Supplies (name : Bytes) (shelf : KeptMap) (n : ℕ) (I : Both → Sta
   -- of the law alone, and `asks` of HeadIsDue, carried from the asking on
   pub awaits : (x : Both) (s : State) (bytes : Bytes) (k : Conn) (e : Exchange) → I x s bytes → IsDue s n k e → k.answer ≡ None → IsAwaited x k e
   -- as Heads and Empties have it
-  pub heads : (number : ℕ → ℕ) (x next : Both) (s : State) (k : Conn) (e : Exchange) (bytes : Bytes) (behind : Option Remains) → I x s bytes → (there : StandsBefore number shelf x s n k e) (it : HeadIsGot shelf next s n e bytes behind there.begin there.then there.before there.peer)
-      → SuppliesHead shelf n I next s e bytes behind there.begin there.then there.before there.peer it
+  pub heads : (number : ℕ → ℕ) (x next : Both) (s : State) (k : Conn) (e : Exchange) (bytes : Bytes) (behind : Option Remains) (more : ℕ) → I x s bytes → GotFrom more shelf n behind next y → (there : StandsBefore number shelf x s n k e) (it : HeadIsGot shelf next s n e bytes behind there.begin there.then there.before there.peer)
+      → SuppliesHead shelf n y I next s e bytes behind there.begin there.then there.before there.peer it
   -- as Pieces and Data have it; and behind the piece
   pub bodies : (x : Both) (s : State) (k : Conn) (a : Answer) (bytes : Bytes) → I x s bytes → IsOpen s n k → k.answer ≡ Some a → SuppliesBody x s n k a bytes
-  pub behind : (number : ℕ → ℕ) (x z next : Both) (s : State) (k : Conn) (a : Answer) (peer : Peer) (e : Exchange) (bytes : Bytes) (here : Remains) (after : Option Remains) → I x s bytes → IsWithinBody x s n k a peer e → IsAmidBody x z n peer a bytes here
-      → IsStepOn (going_on (find (is_number n) z.peers)) shelf n here z next after → PieceIsOver number name next s k a bytes after → I next (body_piece k a bytes s).state (body_piece k a bytes s).rest
+  pub behind : (number : ℕ → ℕ) (x z next : Both) (s : State) (k : Conn) (a : Answer) (peer : Peer) (e : Exchange) (bytes : Bytes) (here : Remains) (after : Option Remains) (more : ℕ) → I x s bytes → IsWithinBody x s n k a peer e → IsAmidBody x z n peer a bytes here
+      → IsStepOn (going_on (find (is_number n) z.peers)) shelf n here z next after → GotFrom more shelf n after next y → PieceIsOver number name next s k a bytes after → I next (body_piece k a bytes s).state (body_piece k a bytes s).rest
 
 -- ---- what it brings
 
@@ -89,5 +89,5 @@ Passes test x s bytes = test x s bytes ≡ true
 
 -- of so many bytes as are read at once
 abbrev pub ReadsAreGotAsTheLaws : Type 0
-ReadsAreGotAsTheLaws = (number : ℕ → ℕ) (name : Bytes) (shelf : KeptMap) (test : Both → State → Bytes → Bool) (x y : Both) (s : State) (n : ℕ) (bytes : Bytes) → Supplies name shelf n (Passes test) → Passes test x s bytes → ShowsSides number name (sides_of x) s → length bytes ≤ 32768
+ReadsAreGotAsTheLaws = (number : ℕ → ℕ) (name : Bytes) (shelf : KeptMap) (test : Both → State → Bytes → Bool) (x y : Both) (s : State) (n : ℕ) (bytes : Bytes) → Supplies name shelf n y (Passes test) → Passes test x s bytes → ShowsSides number name (sides_of x) s → length bytes ≤ 32768
     → HasGot shelf n bytes x y → IsRead name y (got (length bytes) n bytes s)

@@ -9,8 +9,8 @@
 //! a body that finds no byte left. `Reads` joins all of them, by induction over the steps of the pipe: a whole read, from its first byte to
 //! its last, where what each piece rests on is supplied by whatever holds from one to the next. `Amid` is the relation.
 //!
-//! Not said: that something supplies it, of which `Reads` has the sources one by one; a head to the ask of a follower, and one that is passed
-//! and names other places; and the replies that end behind a read, which are in `pp_endings_law`. Nor is anything said where memory was
+//! Not said: that something supplies it, which `pp_origin_reads_law` joins; a head to the ask of a follower, and one that is passed and names
+//! other places; and the replies that end behind a read, which are in `pp_endings_law`. Nor is anything said where memory was
 //! refused for a row.
 //!
 //! To the layer above: each is the clause of a function that does nothing. It is one part of the proof that the program obeys the law. The

@@ -1,0 +1,4 @@
+pub mod Brings
+pub mod Goes
+pub mod Readable
+pub mod Stays
