@@ -17,7 +17,7 @@ use Rattle.pp_seats.specs.declared.seat.Seat.{Seat}
 use Rattle.pp_state.specs.declared.state.State.{State as Turn}
 use Rattle.pp_talk.specs.Talking.{offered, offered_in}
 use Rattle.pp_text.specs.Bytes.{is_empty}
-use Rattle.pp_loads_law.proofs.Lists.{and_false}
+use Rattle.pp_events_law.proofs.Lists.{and_false}
 
 less_test : (a b : ℕ) → a < b → nat_lt a b ≡ true
 less_test a b lt = grind (arith, nat_tests)

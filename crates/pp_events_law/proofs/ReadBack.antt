@@ -42,14 +42,14 @@ use Rattle.pp_turns_law.specs.Rows.{AreReady, IsReady}
 use Rattle.pp_turns_law.specs.Turns.{IsFollowing, ShowsTurn}
 use Rattle.pp_valid.specs.declared.version.Version.{Version}
 use Rattle.pp_world.specs.Log.{Log}
-use Rattle.pp_loads_law.proofs.Bytes.{IsChunk, is_chunk}
-use Rattle.pp_loads_law.proofs.Entries.{IsReadOf}
-use Rattle.pp_loads_law.proofs.Loaded.{disk_stands, its_chunks, load_is, only_chunks, put_there, with_chunk}
-use Rattle.pp_loads_law.proofs.Memory.{bytes_added, cache_shows, same_there, still_stands, turn_loaded, with_added}
-use Rattle.pp_loads_law.proofs.Nexts.{IsSeen}
-use Rattle.pp_loads_law.proofs.Said.{held, in_memory, some_offered}
-use Rattle.pp_loads_law.specs.Reads.{IsLoaded, loaded_note}
-use Rattle.pp_loads_law.specs.Stands.{StandsInEvent, StandsOnDisk}
+use Rattle.pp_events_law.proofs.ChunkBytes.{IsChunk, is_chunk}
+use Rattle.pp_events_law.proofs.Entries.{IsReadOf}
+use Rattle.pp_events_law.proofs.Loaded.{disk_stands, its_chunks, load_is, only_chunks, put_there, with_chunk}
+use Rattle.pp_events_law.proofs.Memory.{bytes_added, cache_shows, same_there, still_stands, turn_loaded, with_added}
+use Rattle.pp_events_law.proofs.Nexts.{IsSeen}
+use Rattle.pp_events_law.proofs.AtHand.{held, in_memory, some_offered}
+use Rattle.pp_events_law.specs.ReadsBack.{IsLoaded, loaded_note}
+use Rattle.pp_events_law.specs.ToLoad.{StandsInEvent, StandsOnDisk}
 
 -- ---- numbers
 

@@ -20,8 +20,8 @@ use Rattle.pp_shelf_law.specs.Shelf.{ShowsEntry}
 use Rattle.pp_store.specs.Kept.{IsExtent, Kept, KeptMap, kept_of, no_row, row_of}
 use Rattle.pp_target.specs.Name.{name_of}
 use Rattle.pp_valid.specs.declared.version.Version.{Version}
-use Rattle.pp_loads_law.proofs.Lists.{none_in}
-use Rattle.pp_loads_law.specs.Stands.{StandsOnDisk}
+use Rattle.pp_events_law.proofs.Lists.{none_in}
+use Rattle.pp_events_law.specs.ToLoad.{StandsOnDisk}
 
 some_found : {A : Type 0} (p : A → Bool) (x : A) (xs : List A) → IsIn x xs → p x ≡ true → find p xs ≡ None → ⊥
 some_found p x [] i holds none = i
