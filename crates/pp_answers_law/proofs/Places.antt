@@ -16,6 +16,7 @@ use Rattle.pp_law.specs.Table.{clear}
 use Rattle.pp_law.specs.ThroughHeads.{clear_each, clear_named, disproved as law_disproved, invalidated as law_invalidated, invalidates as law_invalidates, is_same_host, key_named as law_key_named, places_named as law_places, through_head}
 use Rattle.pp_peers.specs.declared.peers.Peer.{Peer}
 use Rattle.pp_seats_law.specs.Exchanges.{ShowsExchange}
+use Rattle.pp_state.specs.Astray.{astray_where}
 use Rattle.pp_state.specs.Ends.{Parts, cleared_key, cleared_of, cleared_row}
 use Rattle.pp_answers.specs.FinalHeads.{PassesHead, noted_body, relayed}
 use Rattle.pp_state.specs.Keys.{key_of as key_in_flow}
@@ -87,7 +88,7 @@ each_left number name l peers n x e target [] p new s key short cleared were lef
 each_left number name l peers n x e target (text ∷ texts) p new s key short cleared were left =
     subst (λ (t : State). IsLeft number name l peers new t n x e) (sym (each_first e.key text texts s))
     (each_left number name l peers n x e target texts cleared.0 new (clear_named e.key text s) key short.1 cleared.2 were.1
-    (subst (λ (q : Parts). IsLeft number name l peers q (clear_named e.key text s) n x e) (sym (cleared.1.cleared ∙ ap (λ (b : Bool). cleared_of (named_as b (site_of e.key) text) p) were.0 ∙ ap (λ (o : Option Bytes). cleared_of o p) (names_same e.key target text key short.0)))
+    (subst (λ (q : Parts). IsLeft number name l peers q (clear_named e.key text s) n x e) (sym (cleared.1.cleared ∙ ap (λ (b : Bool). astray_where (not b) (cleared_of (named_as b (site_of e.key) text) p)) were.0 ∙ ap (λ (o : Option Bytes). cleared_of o p) (names_same e.key target text key short.0)))
     (subst (λ (t : State). IsLeft number name l peers (cleared_of (named_at e.key text) p) t n x e) (sym (named_is e.key text s))
     (left_of number name l peers p s n x e (named_at e.key text) left))))
 

@@ -11,7 +11,7 @@ use Rattle.pp_peers.specs.Peers.{goes_on}
 use Rattle.pp_desk.specs.Closings.{Sides}
 use Rattle.pp_desk.specs.Shutting.{closings, over_peers}
 use Rattle.pp_world.specs.Log.{Log}
-use Rattle.pp_world.specs.declared.event.Side.TheVariants.{Origin}
+use Rattle.pp_world.specs.declared.event.Side.TheVariants.{Client as OfClient, Origin}
 use Rattle.pp_closings_law.specs.Sides.{OfSides, ShowsSides}
 
 -- connections are closed, and no row left memory for a decision that is next
@@ -28,6 +28,11 @@ MayCome (h ∷ hs) s = IsPermitted s h × MayCome hs (after s h)
 abbrev pub AreLinked : List ℕ → List Link → Type 0
 AreLinked [] links = ⊤
 AreLinked (n ∷ ns) links = (find (is_link n) links ≡ Some (n, Origin)) × AreLinked ns links
+
+-- and each of these as a client's
+abbrev pub AreClientsIn : List ℕ → List Link → Type 0
+AreClientsIn [] links = ⊤
+AreClientsIn (n ∷ ns) links = (find (is_link n) links ≡ Some (n, OfClient)) × AreClientsIn ns links
 
 -- of those to origins, which the log gets behind those of clients
 pub record AreDropped (number : ℕ → ℕ) (name : Bytes) (links : List Link) (x : Sides) (s : State) : Type 0 where

@@ -17,9 +17,9 @@ use Rattle.pp_store.specs.Kept.{Kept, KeptMap, kept_of}
 use Rattle.pp_target.specs.Name.{name_of}
 use Rattle.pp_turns_law.proofs.First.{first_dues}
 use Rattle.pp_turns_law.specs.Firsts.{AreAwake, FirstDueInMemory, HasRowInMemory, IsAsleep, IsDueInMemory, IsFirst}
-use Rattle.pp_turns_law.specs.Rows.{IsKeptAs}
+use Rattle.pp_turns_law.specs.Rows.{AllAreKept, IsKeptAs}
 use Rattle.pp_deciding_law.proofs.Disk.{shows_disk}
-use Rattle.pp_deciding_law.specs.Stands.{AreKept, NoneIsTheLaws}
+use Rattle.pp_deciding_law.specs.Stands.{NoneIsTheLaws}
 
 -- ---- all but what is in memory stays
 
@@ -116,7 +116,7 @@ first_notes_none shelf (i ∷ places) p q found (now, due, its, rest) = by (λ m
     by later None one more = later more ∙ due_notes_none shelf i p now None one
 
 -- what is kept, and may come in, rests on these
-pub kept_on : (shelf : KeptMap) (m k : Memory) (s t : State) → k.outdated ≡ m.outdated → ((key : Bytes) → row_on_disk t key ≡ row_on_disk s key) → AreKept shelf m s → AreKept shelf k t
+pub kept_on : (shelf : KeptMap) (m k : Memory) (s t : State) → k.outdated ≡ m.outdated → ((key : Bytes) → row_on_disk t key ≡ row_on_disk s key) → AllAreKept shelf m s → AllAreKept shelf k t
 kept_on shelf m k s t noted disk kept key =
     subst (λ (o : Option Entry). AreBoth IsKeptAs (elim (list_any (bytes_eq (name_of key)) k.outdated) as (λ c. Option Kept) [ true ↦ None | false ↦ kept_of key shelf ]) o) (sym (disk key))
     (subst (λ (names : List Bytes). AreBoth IsKeptAs (elim (list_any (bytes_eq (name_of key)) names) as (λ c. Option Kept) [ true ↦ None | false ↦ kept_of key shelf ]) (row_on_disk s key)) (sym noted) (kept key))

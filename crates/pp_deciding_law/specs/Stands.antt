@@ -1,22 +1,16 @@
 -- What a turn shows amid decisions, and where none is due (RFC 2616, section 8.1; the order is ours).
-use Rattle.std.specs.Prelude.{◌≡◌, ℕ, true, false, ◌||◌, bytes_eq, List, None}
-use Rattle.std.specs.List.{list_any}
-use Rattle.pp_cache.specs.Memory.{Memory}
+use Rattle.std.specs.Prelude.{◌≡◌, ℕ, true, ◌||◌, List, None}
 use Rattle.pp_cache_law.specs.Kept.{AreAsKept}
-use Rattle.pp_cache_law.specs.Pairs.{AreBoth}
 use Rattle.pp_flow_law.specs.Tables.{none_leaves}
 use Rattle.pp_law.specs.Due.{first_due}
-use Rattle.pp_law.specs.Lists.{Bytes}
 use Rattle.pp_law.specs.Opening.{is_at}
 use Rattle.pp_law.specs.State.{State, Deciding, DecidingAgain}
-use Rattle.pp_law.specs.Table.{row_on_disk}
 use Rattle.pp_laws_turn.specs.SoundTurn.{IsSoundTurn}
 use Rattle.pp_peers.specs.declared.peers.Peer.{Peer}
 use Rattle.pp_state.specs.declared.state.State.{State as Turn}
-use Rattle.pp_store.specs.Kept.{KeptMap, kept_of}
-use Rattle.pp_target.specs.Name.{name_of}
+use Rattle.pp_store.specs.Kept.{KeptMap}
 use Rattle.pp_turns_law.specs.Firsts.{AreAwake, FirstDueInMemory}
-use Rattle.pp_turns_law.specs.Rows.{AreReady, IsKeptAs}
+use Rattle.pp_turns_law.specs.Rows.{AllAreKept, AreReady}
 use Rattle.pp_turns_law.specs.Turns.{ShowsTurn}
 
 -- decisions and cuts are next, before the places of exchanges or behind them, and no row left memory for one: so the phase before, the
@@ -25,17 +19,13 @@ pub record IsDeciding (s : State) : Type 0 where
   pub at : (is_at Deciding s || is_at DecidingAgain s) ≡ true
   pub none : s.made_room_for ≡ None
 
--- what is kept of each key, as long as it may come in, is the law's, also where its row is in memory
-abbrev pub AreKept : KeptMap → Memory → State → Type 0
-AreKept shelf m s = (key : Bytes) → AreBoth IsKeptAs (elim (list_any (bytes_eq (name_of key)) m.outdated) [ true ↦ None | false ↦ kept_of key shelf ]) (row_on_disk s key)
-
 -- the turn shows it, with what is kept on the disk, in the fields that are kept; each client that goes on can be decided; and who is not
 -- looked at is asleep. All of it is carried from step to step. Memory was refused for none of it, which has no source yet; nor has `disk`,
 -- which ShowsShelf and AreNoted give where no entry has a closed name, and `kept`, of a folder from elsewhere
 pub record StandsToDecide (number : ℕ → ℕ) (peers : List Peer) (shelf : KeptMap) (p : Turn) (s : State) : Type 0 where
   pub deciding : IsDeciding s
   pub turn : ShowsTurn number none_leaves peers p s
-  pub disk : AreKept shelf p.cache s
+  pub disk : AllAreKept shelf p.cache s
   pub ready : AreReady number p.cache s.next_instance p.seats.items
   pub kept : AreAsKept shelf
   pub awake : AreAwake p

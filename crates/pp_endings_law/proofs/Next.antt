@@ -1,5 +1,5 @@
 -- The next request of a client stands behind its reply.
-use Rattle.std.proofs.Common.{◌≡◌, ◌≤◌, refl, sym, subst, ap, ap₂, ◌∙◌, ℕ, Bool, false, not, ◌&&◌, find, List, [], Some, None, Option}
+use Rattle.std.proofs.Common.{◌≡◌, ◌≤◌, refl, sym, subst, ap, ap₂, ◌∙◌, ℕ, Bool, false, not, ◌&&◌, ◌||◌, find, List, [], Some, None, Option}
 use Rattle.std.specs.Prelude.{count_by, option_map, slice_get, slice_set}
 use Rattle.pp_cache.specs.Memory.{Memory}
 use Rattle.pp_cache_law.proofs.Numbers.{some_is}
@@ -28,6 +28,7 @@ use Rattle.pp_seats.specs.declared.seat.Seat.{Seat}
 use Rattle.pp_seats_law.specs.Clients.{IsAt}
 use Rattle.pp_seats_law.specs.Seats.{ShowsOpen, ShowsSeat}
 use Rattle.pp_state.specs.Ends.{AreInOrder, Parts, source_of}
+use Rattle.pp_state.specs.Hearing.{lacks_key_at}
 use Rattle.pp_state.specs.Places.{IsChangedIn}
 use Rattle.pp_steps_law.proofs.Places.{numbers_set}
 use Rattle.pp_steps_law.proofs.Told.{are_told_on}
@@ -42,11 +43,16 @@ use Rattle.pp_endings_law.proofs.Walk.{IsGood, IsStepped}
 
 -- ---- the program's
 
+-- the law knows nothing of whether the life went astray by it
+abbrev pub with_astray : Bool → Sides → Sides
+with_astray b x = record x { parts = record x.parts { is_astray = b } }
+
 -- it is read as a request
 pub record IsNextOf (i : ℕ) (old : Sides) (seat : Seat) (z : Sides) : Type 0 where
   pub y : Seat
   pub read : IsRead seat y
-  pub is : z ≡ with_seats (slice_set old.parts.seats i y) old
+  pub astray : Bool
+  pub is : z ≡ with_astray astray (with_seats (slice_set old.parts.seats i y) old)
 
 pub looked : (i : ℕ) (old z : Sides) (seat : Seat) → slice_get old.parts.seats i ≡ Some seat → IsLookedAt i old z → IsNextOf i old seat z
 looked i old z seat here at = by (slice_get old.parts.seats i) here at.0
@@ -56,7 +62,8 @@ looked i old z seat here at = by (slice_get old.parts.seats i) here at.0
     by (Some a) is changed = record {
       y = changed.0;
       read = subst (λ (b : Seat). IsRead b changed.0) (some_is a seat is) changed.1;
-      is = ap (λ (w : Sides). with_seats z.parts.seats w) at.1 ∙ ap (λ (seats : List Seat). with_seats seats old) changed.2;
+      astray = old.parts.is_astray || lacks_key_at i z.parts.seats;
+      is = ap (λ (w : Sides). with_seats z.parts.seats w) at.1 ∙ ap (λ (seats : List Seat). with_astray (old.parts.is_astray || lacks_key_at i z.parts.seats) (with_seats seats old)) changed.2;
     }
 
 -- ---- the law's
@@ -93,9 +100,9 @@ module _ (number : ℕ → ℕ) (name : Bytes) (i : ℕ) (x : Sides) (s : State)
   live = (shown_at number name [] x.parts.seats s.clients n i seat c good.shows.steps.shows.clients at place.here place.there).going going
 
   -- with this seat, which shows the client behind its reply
-  module _ (y : Seat) (numbered : y.client.id ≡ n) (shown : ShowsSeat number name [] y (next_request c)) (unsaid : is_said y.client.reply ≡ false) (rests : (m : Memory) → IsFollowing m y) where
+  module _ (astray : Bool) (y : Seat) (numbered : y.client.id ≡ n) (shown : ShowsSeat number name [] y (next_request c)) (unsaid : is_said y.client.reply ≡ false) (rests : (m : Memory) → IsFollowing m y) where
     abbrev first : Parts
-    first = record x.parts { seats = slice_set x.parts.seats i y; cache = left_memory o x.parts.cache }
+    first = record x.parts { seats = slice_set x.parts.seats i y; cache = left_memory o x.parts.cache; is_astray = astray }
 
     -- its exchange is left
     abbrev z : Sides
@@ -179,5 +186,5 @@ module _ (number : ℕ → ℕ) (name : Bytes) (i : ℕ) (x : Sides) (s : State)
         let then : IsNextOf i behind (at_next_request r) w =
         looked i behind w (at_next_request r) (get_set i x.parts.seats seat (at_next_request r) place.here) (subst (λ (v : Sides). IsLookedAt i v w) program looks) in
         let it : IsReadAs then.y = reads then.y then.read in
-        subst (λ (v : Sides). IsStepped number name i x v s t) (sym (then.is ∙ ap (λ (seats : List Seat). by_source o seats) (set_set i x.parts.seats (at_next_request r) then.y)))
-        (next_stepped then.y it.numbered it.shown it.unsaid it.rests)
+        subst (λ (v : Sides). IsStepped number name i x v s t) (sym (then.is ∙ ap (λ (seats : List Seat). with_astray then.astray (by_source o seats)) (set_set i x.parts.seats (at_next_request r) then.y)))
+        (next_stepped then.astray then.y it.numbered it.shown it.unsaid it.rests)

@@ -115,8 +115,8 @@ module _ (number : ℕ → ℕ) (i : ℕ) (x y : Turning) (seat : Seat) (owed : 
   its_awake : has_number i looked.state.awake.items ≡ true
   its_awake = ap (λ (ns : List ℕ). has_number i ns) awake_is ∙ has_with i p.awake.items
 
-  module _ (new : Seat) (m : State) (steps : ShowsSteps number name none_leaves old.peers (record (parts p) { seats = slice_set p.seats.items i new }) m) (may : MayClose m) (like : IsSameReply seat new) (rest : m ≡ record s { clients = m.clients }) (next : Sides)
-      (next_is : next ≡ record (sides old) { parts = record (parts p) { seats = slice_set p.seats.items i new } }) (ends : EndsReplies looked.state.awake.items next (sides y.moving.desk)) (numbers : numbers_of y.moving.desk.state.seats.items ≡ numbers_of p.seats.items) (keeps : KeepsDesk looked (record y.moving.desk { buffer = looked.buffer }))
+  module _ (astray : Bool) (new : Seat) (m : State) (steps : ShowsSteps number name none_leaves old.peers (record (parts p) { seats = slice_set p.seats.items i new; is_astray = astray }) m) (may : MayClose m) (like : IsSameReply seat new) (rest : m ≡ record s { clients = m.clients }) (next : Sides)
+      (next_is : next ≡ record (sides old) { parts = record (parts p) { seats = slice_set p.seats.items i new; is_astray = astray } }) (ends : EndsReplies looked.state.awake.items next (sides y.moving.desk)) (numbers : numbers_of y.moving.desk.state.seats.items ≡ numbers_of p.seats.items) (keeps : KeepsDesk looked (record y.moving.desk { buffer = looked.buffer }))
       (links : y.moving.links ≡ x.moving.links) (top : y.moving.top ≡ x.moving.top) (bounded : IsBounded y.moving.desk.state.cache) where
     abbrev seats : List Seat
     seats = slice_set p.seats.items i new
@@ -249,7 +249,7 @@ module _ (number : ℕ → ℕ) (i : ℕ) (x y : Turning) (seat : Seat) (owed : 
 
     all_left : IsLeft seat new → AreLeft (parts p) (parts behind.state)
     all_left left =
-        let changed : Parts = record (parts p) { seats = seats } in
+        let changed : Parts = record (parts p) { seats = seats; is_astray = astray } in
         left_then (parts p) changed (parts behind.state) (record { was = λ j other at. set_left i p.seats.items seat new here left j other at; lives = refl; there = λ id is. is })
         (subst (λ (z : Sides). AreLeft z.parts (parts behind.state)) next_is (replies_left looked.state.awake.items next (sides behind) ends))
 

@@ -163,17 +163,21 @@ module _ (number : ℕ → ℕ) (id i : ℕ) (x y : Turning) (seat : Seat) (s : 
   sitting : Sits id i seats seat
   sitting = record { at = sits; there = may.here; going = may.going }
 
+  -- whether this life went astray by it is none of the law's
+  abbrev astray : Bool
+  astray = next.parts.is_astray
+
   -- the parts with another seat there
   abbrev with_seat : Seat → Sides
-  with_seat new = record (sides old) { parts = record (parts p) { seats = slice_set seats i new } }
+  with_seat new = record (sides old) { parts = record (parts p) { seats = slice_set seats i new; is_astray = astray } }
 
   next_as : (new : Seat) → next.parts.seats ≡ slice_set seats i new → next ≡ with_seat new
   next_as new is =
-      ap (λ (z : Sides). record z { parts = record z.parts { seats = next.parts.seats } }) (read.is.rest ∙ same_sides) ∙ ap (λ (ss : List Seat). record (sides old) { parts = record (parts p) { seats = ss } }) is
+      ap (λ (z : Sides). record z { parts = record z.parts { seats = next.parts.seats; is_astray = astray } }) (read.is.rest ∙ same_sides) ∙ ap (λ (ss : List Seat). record (sides old) { parts = record (parts p) { seats = ss; is_astray = astray } }) is
 
   -- and the law's client there changed as well
   module _ (new : Seat) (f : Client → Client) (like : IsSameReply seat new) (goes : GoesThrough f) (follows_on : FollowsOn f) (one : (c : Client) → ShowsSeat number name [] seat c → ShowsSeat number name [] new (f c)) where
-    shown : ShowsSteps number name none_leaves old.peers (record (parts p) { seats = slice_set seats i new }) (on_client id f s)
+    shown : ShowsSteps number name none_leaves old.peers (record (parts p) { seats = slice_set seats i new; is_astray = astray }) (on_client id f s)
     unfolding on_client
     shown = record {
       shows = changes number name [] none_leaves (whole (parts p) old.peers) s stands.desk.turn.steps.shows id i new f sits follows_on (λ other c at there shows. one c (subst (λ (o : Seat). ShowsSeat number name [] o c) (some_is other seat (sym at ∙ may.here)) shows));
@@ -188,11 +192,11 @@ module _ (number : ℕ → ℕ) (id i : ℕ) (x y : Turning) (seat : Seat) (s : 
 
     handled : next.parts.seats ≡ slice_set seats i new → IsHandled number y.moving (paid (end_replies (on_client id f s)))
     handled is =
-        end_handled number i x y seat (ReadOf id) s stands ready sound may.here may.still may.settled hears.roused hears.rouses may.looks new (on_client id f s) shown (client_may id f goes s stands.desk.may) like rest next (next_as new is) hears.hears.2 hears.numbers hears.rest hears.one.links hears.one.top bounded
+        end_handled number i x y seat (ReadOf id) s stands ready sound may.here may.still may.settled hears.roused hears.rouses may.looks astray new (on_client id f s) shown (client_may id f goes s stands.desk.may) like rest next (next_as new is) hears.hears.2 hears.numbers hears.rest hears.one.links hears.one.top bounded
 
     stays_ready : IsLeft seat new → next.parts.seats ≡ slice_set seats i new → StaysReady number x y (paid (end_replies (on_client id f s)))
     stays_ready left is =
-        end_ready number i x y seat (ReadOf id) s stands ready sound may.here may.still may.settled hears.roused hears.rouses may.looks new (on_client id f s) shown (client_may id f goes s stands.desk.may) like rest next (next_as new is) hears.hears.2 hears.numbers hears.rest hears.one.links hears.one.top bounded left
+        end_ready number i x y seat (ReadOf id) s stands ready sound may.here may.still may.settled hears.roused hears.rouses may.looks astray new (on_client id f s) shown (client_may id f goes s stands.desk.may) like rest next (next_as new is) hears.hears.2 hears.numbers hears.rest hears.one.links hears.one.top bounded left
 
   -- ---- bytes came
 
@@ -288,8 +292,11 @@ module _ (number : ℕ → ℕ) (id i : ℕ) (x y : Turning) (seat : Seat) (s : 
   none_over : end_replies s ≡ s
   none_over = none_ends s (λ n c there. all_rest number name seats s.clients stands.desk.turn.steps.shows.clients may.settled n c there)
 
-  same_steps : ShowsSteps number name none_leaves old.peers (record (parts p) { seats = slice_set seats i seat }) s
-  same_steps = subst (λ (ss : List Seat). ShowsSteps number name none_leaves old.peers (record (parts p) { seats = ss }) s) (sym (set_same i seats seat may.here)) stands.desk.turn.steps
+  same_steps : ShowsSteps number name none_leaves old.peers (record (parts p) { seats = slice_set seats i seat; is_astray = astray }) s
+  same_steps =
+      let steps : ShowsSteps number name none_leaves old.peers (parts p) s = stands.desk.turn.steps in
+      subst (λ (ss : List Seat). ShowsSteps number name none_leaves old.peers (record (parts p) { seats = ss; is_astray = astray }) s) (sym (set_same i seats seat may.here))
+      (record { shows = steps.shows; order = steps.order; told = steps.told; refused = steps.refused })
 
   nothing : found_as (Some (Ok NotYet)) → HasLedReady number x y s
   nothing found = record {
@@ -300,12 +307,12 @@ module _ (number : ℕ → ℕ) (id i : ℕ) (x y : Turning) (seat : Seat) (s : 
         told = told_as x.log y.log (read_log seat.client.id (Some (Ok NotYet)) read.front) (NoneYet id ∷ []) found.0 (λ l told. ap (λ (m : ℕ). NoneYet m ∷ []) its_id);
         leads = nones_lead number id [] seats s owes;
         handled = subst (λ (t : State). IsHandled number y.moving (paid t)) none_over
-            (end_handled number i x y seat (ReadOf id) s stands ready sound may.here may.still may.settled hears.roused hears.rouses may.looks seat s same_steps stands.desk.may
+            (end_handled number i x y seat (ReadOf id) s stands ready sound may.here may.still may.settled hears.roused hears.rouses may.looks astray seat s same_steps stands.desk.may
             (record { id = refl; stage = refl; reply = refl; closing = refl }) refl next (next_as seat (found.2.seats ∙ set_at (heard_at (Some (Ok NotYet)) read.front))) hears.hears.2 hears.numbers hears.rest hears.one.links hears.one.top bounded);
       };
     };
     ready = subst (λ (t : State). StaysReady number x y (paid t)) none_over
-        (end_ready number i x y seat (ReadOf id) s stands ready sound may.here may.still may.settled hears.roused hears.rouses may.looks seat s same_steps stands.desk.may
+        (end_ready number i x y seat (ReadOf id) s stands ready sound may.here may.still may.settled hears.roused hears.rouses may.looks astray seat s same_steps stands.desk.may
         (record { id = refl; stage = refl; reply = refl; closing = refl }) refl next (next_as seat (found.2.seats ∙ set_at (heard_at (Some (Ok NotYet)) read.front))) hears.hears.2 hears.numbers hears.rest hears.one.links hears.one.top bounded (left_as seat));
   }
 

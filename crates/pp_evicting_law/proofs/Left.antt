@@ -197,7 +197,7 @@ module _ (number : ℕ → ℕ) (x y : Moving) (log : Log) (h : State) (done : I
   now_seats = ap (λ (p : Parts). p.seats) now_parts ∙ stays.seats ∙ left_seats
 
   abbrev kept : Turn → Turn
-  kept p = record p { seats = x.desk.state.seats; flow = x.desk.state.flow; cache = x.desk.state.cache; refused = x.desk.state.refused; forgotten = x.desk.state.forgotten }
+  kept p = record p { seats = x.desk.state.seats; flow = x.desk.state.flow; cache = x.desk.state.cache; refused = x.desk.state.refused; is_astray = x.desk.state.is_astray; forgotten = x.desk.state.forgotten }
 
   abbrev kept_in : Turn → Desk → Desk
   kept_in p d = record d { state = kept p; peers = peers }

@@ -88,7 +88,7 @@ IsElse s t = record t { phase = s.phase; forgotten = s.forgotten; chunks = s.chu
 
 -- and all else of the turn: of the cache the chunks, and the cells of its rows
 pub record KeepsElse (x y : Moving) : Type 0 where
-  pub desk : record y.desk { state = record y.desk.state { seats = x.desk.state.seats; flow = x.desk.state.flow; cache = x.desk.state.cache; refused = x.desk.state.refused; forgotten = x.desk.state.forgotten } } ≡ x.desk
+  pub desk : record y.desk { state = record y.desk.state { seats = x.desk.state.seats; flow = x.desk.state.flow; cache = x.desk.state.cache; refused = x.desk.state.refused; is_astray = x.desk.state.is_astray; forgotten = x.desk.state.forgotten } } ≡ x.desk
   pub cache : record y.desk.state.cache { chunks = x.desk.state.cache.chunks; instances = x.desk.state.cache.instances } ≡ x.desk.state.cache
   pub faces_are : faces y.desk.state.cache.instances ≡ faces x.desk.state.cache.instances
   pub numbers : numbers_of y.desk.state.seats.items ≡ numbers_of x.desk.state.seats.items

@@ -1,6 +1,6 @@
 -- Each outdated name, from the last.
 use Rattle.std.proofs.Common.{◌≡◌, refl, sym, subst, ap, ◌∙◌, ◌≤◌, ℕ, zero, suc, ◌+◌, Bool, true, false, List, [], ◌∷◌, length, length-append, Option, Some, None, Result, arith}
-use Rattle.pp_keeping.specs.Keeping.{Keeping as Kept, Repeats, TakesName, TakesNext, all_but_last, without_name}
+use Rattle.pp_keeping.specs.Keeping.{Keeping as Kept, Repeats, RepeatsTo, TakesName, TakesNext, all_but_last, without_name}
 use Rattle.pp_keeping.specs.Kept.{Notes, Outside, TakesAway, Withdraws, key_under, unkept_of}
 use Rattle.pp_law.specs.Lists.{Bytes}
 use Rattle.pp_state.specs.declared.state.State.{State as Turn}
@@ -85,7 +85,7 @@ stopped : (x : Kept) → x.state.cache.outdated ≡ [] → AllTaken x x
 stopped x none = record { adds = nothing_more (Unit {0}) (Unit {0}) x (λ number s stands f. tt); taken = none_taken x; none = none }
 
 pub all_taken : (n : ℕ) (goes : Bool) (x y : Kept) → Repeats TakesNext n goes x y → Left goes n x → AllTaken x y
-unfolding Repeats
+unfolding RepeatsTo
 all_taken zero true x y is few = subst (AllTaken x) (sym is) (stopped x (no_name x.state.cache.outdated few))
 all_taken zero false x y is none = subst (AllTaken x) (sym is) (stopped x none)
 all_taken (suc n) false x y is none = subst (AllTaken x) (sym is) (stopped x none)

@@ -1,11 +1,14 @@
 -- One step behind the other, with what is known of the program before and behind it.
-use Rattle.std.proofs.Common.{◌≡◌, refl, sym, subst, ap, ◌∙◌, ℕ, []}
+use Rattle.std.proofs.Common.{◌≡◌, refl, sym, subst, ap, ◌∙◌, ℕ, Bool, true, false, []}
 use Rattle.pp_cache_law.proofs.Framing.{the_same}
-use Rattle.pp_keeping.specs.Keeping.{Keeping as Kept}
+use Rattle.pp_keeping.specs.Keeping.{Keeping as Kept, ends_astray}
 use Rattle.pp_law.specs.State.{State}
 use Rattle.pp_obeys.proofs.Adding.{adds_as, adds_then}
 use Rattle.pp_obeys.proofs.Moving.{moves_append, moves_map}
 use Rattle.pp_obeys.specs.Moves.{Both, MovesAll}
+use Rattle.pp_state.specs.Astray.{gone_astray}
+use Rattle.pp_state.specs.declared.state.State.{State as Turn}
+use Rattle.pp_store.specs.Kept.{KeptMap}
 use Rattle.pp_world.specs.Log.{Log}
 use Rattle.pp_keeps_law.proofs.Added.{adds_these, still_adds}
 use Rattle.pp_keeps_law.specs.Keeps.{AddsTo, HasKept, LeadsOn, on_disk}
@@ -43,6 +46,33 @@ joined F G H x m y one two =
 pub nothing_more : (F G : Type 0) (x : Kept) → ((number : ℕ → ℕ) (s : State) → StandsToKeep number x.state x.outside.shelf s → F → G) → AddsTo x x (LeadsWith F G x x)
 nothing_more F G x knows =
     adds_these x.outside.faults x.outside.faults [] (LeadsWith F G x x) (λ number s stands f. record { kept = record { stands = stands; rest = refl }; knows = knows number s stands f })
+    (still_adds x.outside x.outside (record { shelf = refl; told = refl; count = the_same x.outside.faults }))
+
+-- whether the life went astray is not of the disk
+stands_astray : (number : ℕ → ℕ) (p : Turn) (shelf : KeptMap) (s : State) → StandsToKeep number p shelf s → StandsToKeep number (gone_astray p) shelf s
+stands_astray number p shelf s stands = record {
+  rests = stands.rests;
+  cache = stands.cache;
+  bounded = stands.bounded;
+  noted = stands.noted;
+  names = stands.names;
+  displaced = stands.displaced;
+  short = stands.short;
+  lost = stands.lost;
+  alone = stands.alone;
+  fields = stands.fields;
+  clock = stands.clock;
+  run = stands.run;
+  few = stands.few;
+}
+
+-- and none, behind the last that may be
+pub nothing_left : (F : Type 0) (G : Turn → Type 0) (goes : Bool) (x : Kept) → ((p : Turn) → G p → G (gone_astray p)) → ((number : ℕ → ℕ) (s : State) → StandsToKeep number x.state x.outside.shelf s → F → G x.state)
+    → AddsTo x (ends_astray goes x) (LeadsWith F (G (ends_astray goes x).state) x (ends_astray goes x))
+nothing_left F G false x astray knows = nothing_more F (G x.state) x knows
+nothing_left F G true x astray knows =
+    adds_these x.outside.faults x.outside.faults [] (LeadsWith F (G (gone_astray x.state)) x (ends_astray true x))
+    (λ number s stands f. record { kept = record { stands = stands_astray number x.state x.outside.shelf s stands; rest = refl }; knows = astray x.state (knows number s stands f) })
     (still_adds x.outside x.outside (record { shelf = refl; told = refl; count = the_same x.outside.faults }))
 
 pub as_it_is : (F G : Type 0) (x y : Kept) → y ≡ x → AddsTo x x (LeadsWith F G x x) → AddsTo x y (LeadsWith F G x y)

@@ -3,8 +3,7 @@ use Rattle.std.proofs.Common.{◌≡◌, refl, sym, subst, ap, ap₂, ◌∙◌,
 use Rattle.std.specs.Prelude.{bytes_eq, min, nat_le, nat_lt}
 use Rattle.std.specs.List.{list_any}
 use Rattle.pp_cache_law.proofs.Numbers.{is_same, number_of_there}
-use Rattle.pp_entry.specs.Texts.{chunks_of}
-use Rattle.pp_keeping.specs.Keeping.{KeepsRun, Keeping as Kept, Repeats, goes_on, with_outcome}
+use Rattle.pp_keeping.specs.Keeping.{KeepsRun, Keeping as Kept, RepeatsOn, RepeatsTo, ends_astray, goes_on, with_outcome}
 use Rattle.pp_keeping.specs.Runs.{drafted_to, entry_of, full, sealed_to}
 use Rattle.pp_law.specs.Lists.{Bytes}
 use Rattle.pp_law.specs.State.{State, Instance as Known}
@@ -18,6 +17,7 @@ use Rattle.pp_obeys.proofs.Moving.{moves_map}
 use Rattle.pp_obeys.proofs.Silent.{both_hold}
 use Rattle.pp_seats.specs.Courses.{is_same_version}
 use Rattle.pp_shelf_law.proofs.Shelves.{bytes_by, same_bytes}
+use Rattle.pp_state.specs.Astray.{gone_astray}
 use Rattle.pp_state.specs.Bringing.{instance_of}
 use Rattle.pp_state.specs.declared.state.State.{State as Turn}
 use Rattle.pp_store.specs.Answers.{Answers, refusal_of}
@@ -28,11 +28,11 @@ use Rattle.pp_store.specs.declared.faults.KeepFault.TheVariants.{Closed, Full, T
 use Rattle.pp_target.specs.Name.{name_of}
 use Rattle.pp_world.specs.declared.disk.DiskFault.{DiskFault}
 use Rattle.pp_keeps_law.proofs.AllTaken.{same_then}
-use Rattle.pp_keeps_law.proofs.Due.{fewer_without, next_before}
+use Rattle.pp_keeps_law.proofs.Due.{among_before, fewer_without, next_before}
 use Rattle.pp_keeps_law.proofs.Entries.{any_in, in_last, true_not}
 use Rattle.pp_keeps_law.proofs.Found.{IsKnown, known_of}
 use Rattle.pp_keeps_law.proofs.Held.{same_true}
-use Rattle.pp_keeps_law.proofs.Joining.{HasBoth, LeadsWith, joined, nothing_more}
+use Rattle.pp_keeps_law.proofs.Joining.{HasBoth, LeadsWith, joined, nothing_left, nothing_more}
 use Rattle.pp_keeps_law.proofs.OneRun.{HasDrafted, HasSealed, HasStayed, OneRun, drafted, one_run, sealed, stayed}
 use Rattle.pp_keeps_law.proofs.Planned.{unrefused}
 use Rattle.pp_keeps_law.proofs.Shelved.{others_drafted, others_sealed, own_closed, own_drafted, own_gone, own_lost_draft, own_sealed}
@@ -56,15 +56,11 @@ pub record IsWithin (steps : ℕ) (p : Turn) (shelf : KeptMap) (i : Instance) : 
 abbrev pub IsOver : ObjectId → Turn → KeptMap → Type 0
 IsOver id p shelf = (i : Instance) → instance_of id p.cache.instances ≡ Some i → HasNextRun p shelf id i → ⊥
 
-abbrev pub IsBrief : Turn → Type 0
-IsBrief p = (id : ObjectId) (i : Instance) → instance_of id p.cache.instances ≡ Some i → p.run ≡ 1 → chunks_of i.version.length ≡ 16384 → ⊥
-
 -- amid the runs of an instance: it is the last of these, and the others are noted still
 pub record IsAmid (start : Turn) (id : ObjectId) (left : List ObjectId) (p : Turn) (shelf : KeptMap) : Type 0 where
   pub same : IsSameBody start p
   pub none : p.cache.outdated ≡ []
   pub names : p.cache.grown ≡ left
-  pub brief : IsBrief p
   pub among : AreAmong (left ++ id ∷ []) p shelf
 
 abbrev pub Goes : ObjectId → ℕ → Bool → Turn → KeptMap → Type 0
@@ -165,7 +161,6 @@ module _ (start : Turn) (number : ℕ → ℕ) (x y : Kept) (s : State) (id : Ob
       same = same_then start p q f.amid.same same;
       none = outdated ∙ f.amid.none;
       names = grown ∙ f.amid.names;
-      brief = λ other i there one. f.amid.brief other i (ap (λ (is : List Instance). instance_of other is) (sym same.instances) ∙ there) (sym same.run ∙ one);
       among = step_among number p shelf s stands q new id row left found unretired same fewer f.amid.among;
     }
 
@@ -294,6 +289,19 @@ pub ends_with : (start : Turn) (id : ObjectId) (left : List ObjectId) (goes : Bo
 ends_with start id left true x f = record { amid = f.amid; over = no_steps id x.state x.outside.shelf f.goes_so }
 ends_with start id left false x f = record { amid = f.amid; over = f.goes_so }
 
+-- also where this life is said to have gone astray
+same_astray : (p : Turn) → IsSameBody p (gone_astray p)
+same_astray p = record { run = refl; instances = refl; lives = refl; chunks = refl }
+
+pub among_astray : (ids : List ObjectId) (p : Turn) (shelf : KeptMap) → AreAmong ids p shelf → AreAmong ids (gone_astray p) shelf
+among_astray ids p shelf among = among_before ids p (gone_astray p) shelf shelf (same_astray p) (λ key k is. is) among
+
+ended_astray : (start : Turn) (id : ObjectId) (left : List ObjectId) (p : Turn) (shelf : KeptMap) → Ended start id left p shelf → Ended start id left (gone_astray p) shelf
+ended_astray start id left p shelf e = record {
+  amid = record { same = same_then start p (gone_astray p) e.amid.same (same_astray p); none = e.amid.none; names = e.amid.names; among = among_astray (left ++ id ∷ []) p shelf e.amid.among };
+  over = λ i found next. e.over i found (next_before p (gone_astray p) shelf shelf id i (same_astray p) next next.next.there);
+}
+
 -- one that leads on, where no name is outdated
 step_adds : (start : Turn) (id : ObjectId) (left : List ObjectId) (room n : ℕ) (again : Bool) (x y : Kept) → 286720 ≤ room → KeepsRun id room x y again
     → AddsTo x y (LeadsWith (Going start id left (suc n) true x.state x.outside.shelf) (Going start id left n again y.state y.outside.shelf) x y)
@@ -304,12 +312,15 @@ step_adds start id left room n again x y long step =
     (λ t kept. record { kept = kept; knows = goes_then start number x y s id left n again stands f (one_run number s x y id room again long f.amid.none stands step) }) hs s (leads f.amid.none number s stands))
     (runs_lead_on x y id room again step)
 
-pub all_runs : (start : Turn) (id : ObjectId) (left : List ObjectId) (room n : ℕ) (goes : Bool) (x y : Kept) → 286720 ≤ room → Repeats (KeepsRun id room) n goes x y
+pub all_runs : (start : Turn) (id : ObjectId) (left : List ObjectId) (room n : ℕ) (goes : Bool) (x y : Kept) → 286720 ≤ room → RepeatsOn (KeepsRun id room) n goes x y
     → AddsTo x y (LeadsWith (Going start id left n goes x.state x.outside.shelf) (Ended start id left y.state y.outside.shelf) x y)
-unfolding Repeats
+unfolding RepeatsTo
 all_runs start id left room zero goes x y long is =
-    subst (λ (z : Kept). AddsTo x z (LeadsWith (Going start id left 0 goes x.state x.outside.shelf) (Ended start id left z.state z.outside.shelf) x z)) (sym is)
-    (nothing_more (Going start id left 0 goes x.state x.outside.shelf) (Ended start id left x.state x.outside.shelf) x (λ number s stands f. ends_with start id left goes x f))
+    subst (λ (z : Kept). AddsTo x z (LeadsWith (Going start id left 0 goes x.state x.outside.shelf) (Ended start id left z.state z.outside.shelf) x z)) (sym is) (at_bound goes)
+  where
+    at_bound : (goes : Bool) → AddsTo x (ends_astray goes x) (LeadsWith (Going start id left 0 goes x.state x.outside.shelf) (Ended start id left (ends_astray goes x).state (ends_astray goes x).outside.shelf) x (ends_astray goes x))
+    at_bound goes =
+        nothing_left (Going start id left 0 goes x.state x.outside.shelf) (λ p. Ended start id left p x.outside.shelf) goes x (λ p e. ended_astray start id left p x.outside.shelf e) (λ number s stands f. ends_with start id left goes x f)
 all_runs start id left room (suc n) false x y long is =
     subst (λ (z : Kept). AddsTo x z (LeadsWith (Going start id left (suc n) false x.state x.outside.shelf) (Ended start id left z.state z.outside.shelf) x z)) (sym is)
     (nothing_more (Going start id left (suc n) false x.state x.outside.shelf) (Ended start id left x.state x.outside.shelf) x (λ number s stands f. record { amid = f.amid; over = f.goes_so }))

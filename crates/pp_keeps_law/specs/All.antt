@@ -1,7 +1,6 @@
 -- All that is taken away and kept in a turn, one behind the other, leads on to where nothing is left to do for the disk (ours).
 use Rattle.std.specs.Prelude.{◌≡◌, ◌≤◌, ℕ, true, length, List, Some}
 use Rattle.std.specs.List.{list_any}
-use Rattle.pp_entry.specs.Texts.{chunks_of}
 use Rattle.pp_keeping.specs.Keeping.{KeepsAll, Keeping as Kept}
 use Rattle.pp_law.specs.State.{State}
 use Rattle.pp_law.specs.Store.{is_done_on_disk}
@@ -31,8 +30,6 @@ pub record HasGrown (x : Kept) : Type 0 where
   pub few : length x.state.cache.grown ≤ 16
   -- what was whole before this turn was sealed in the turn in which it came; no source yet
   pub all : AreAmong x.state.cache.grown x.state x.outside.shelf
-  -- the draft of a row is a step, too: so one of 16,384 chunks, with one a run, is not kept whole in the turn in which it is drafted
-  pub brief : (id : ObjectId) (i : Instance) → instance_of id x.state.cache.instances ≡ Some i → x.state.run ≡ 1 → chunks_of i.version.length ≡ 16384 → ⊥
 
 -- nothing came into memory or left it
 pub record IsSameBody (p q : Turn) : Type 0 where
@@ -41,7 +38,8 @@ pub record IsSameBody (p q : Turn) : Type 0 where
   pub lives : q.cache.lives ≡ p.cache.lives
   pub chunks : q.cache.chunks ≡ p.cache.chunks
 
--- the turn stands so behind it, all that is not of the disk is as it was, and its phase may be left
+-- the turn stands so behind it, also where the program says that it went astray: no loop ended with anything left; all that is not of
+-- the disk is as it was, and its phase may be left
 pub record IsDoneWith (number : ℕ → ℕ) (x y : Kept) (s t : State) : Type 0 where
   pub kept : HasKept number y.state y.outside.shelf s t
   pub same : IsSameBody x.state y.state

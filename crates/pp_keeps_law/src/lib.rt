@@ -9,7 +9,7 @@
 //!
 //! To the layer above: each is the clause of a function that does nothing, over what `keep` of `pp_keeping` says it does. All that is not
 //! of the disk is as it was. Not said: that the instances of which a run is due are among those that the cache notes as grown, which is a
-//! premise; nor is a row with one chunk a run and 16,384 chunks kept whole in the turn in which it is drafted.
+//! premise. No loop of the keeping ends at its bound with anything left, so that nothing is asked of whether this life went astray.
 //!
 //! Takes no memory, and does nothing when the program runs.
 #![tactic(auto)]

@@ -142,7 +142,7 @@ module _ (number : ℕ → ℕ) (name : Bytes) (l : Leaving) (peers : List Peer)
     abbrev left : List Chunk
     left = (left_memory st).cache.chunks
 
-    parts_are : parts after ≡ record { seats = st.seats.items; flow = st.flow; cache = after.cache; refused = [] }
+    parts_are : parts after ≡ record { seats = st.seats.items; flow = st.flow; cache = after.cache; refused = []; is_astray = st.is_astray }
     parts_are = ap (λ (x : Steps). parts (record x { cache = after.cache })) is.rest
 
     memory_is : after.cache ≡ record st.cache { chunks = left; instances = after.cache.instances }

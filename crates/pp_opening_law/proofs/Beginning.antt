@@ -1,5 +1,5 @@
 -- Where nobody is there and nothing is in memory, all is shown.
-use Rattle.std.proofs.Common.{◌≡◌, ◌≤◌, refl, sym, subst, ap, ◌∙◌, ℕ, ◌%◌, ◌&&◌, Bool, List, [], arith}
+use Rattle.std.proofs.Common.{◌≡◌, refl, sym, subst, ap, ◌∙◌, ℕ, ◌%◌, ◌&&◌, Bool, List, [], arith}
 use Rattle.std.specs.Prelude.{false, nat_lt}
 use Rattle.std.proofs.lemmas.Bool.Decides.{nat_tests}
 use Rattle.pp_cache.specs.Bounds.{IsBounded}
@@ -40,7 +40,7 @@ set_as conf p s set is = record {
 -- ---- the memory
 
 abbrev nobody : ℕ → Parts
-nobody size = record { seats = []; flow = record { waiting = []; placed = []; begun = 0 }; cache = empty_memory size; refused = [] }
+nobody size = record { seats = []; flow = record { waiting = []; placed = []; begun = 0 }; cache = empty_memory size; refused = []; is_astray = false }
 
 not_below : (n : ℕ) → nat_lt n 0 ≡ false
 not_below n = grind (arith, nat_tests)
@@ -77,8 +77,9 @@ begins_with : (conf : Conf) (p : Turn) → IsNew conf p → parts p ≡ nobody c
 begins_with conf p new =
     ap (λ (seats : List Seat). record (parts p) { seats = seats }) new.seats
     ∙ ap (λ (flow : Exchanges). record (parts p) { seats = []; flow = flow }) new.flow
-    ∙ ap (λ (m : Memory). record (nobody conf.critical) { cache = m; refused = p.refused }) new.cache
-    ∙ ap (λ (keys : List (List ℕ)). record (nobody conf.critical) { refused = keys }) new.refused
+    ∙ ap (λ (m : Memory). record (nobody conf.critical) { cache = m; refused = p.refused; is_astray = p.is_astray }) new.cache
+    ∙ ap (λ (keys : List (List ℕ)). record (nobody conf.critical) { refused = keys; is_astray = p.is_astray }) new.refused
+    ∙ ap (λ (b : Bool). record (nobody conf.critical) { is_astray = b }) new.astray
 
 pub memory_is : MemoryIsTheLaws
 memory_is number conf p s set new is unused =

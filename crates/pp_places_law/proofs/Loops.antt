@@ -1,8 +1,9 @@
 -- Each exchange without a place gets one, one behind the other, where the law gives it one.
-use Rattle.std.proofs.Common.{◌≡◌, ◌⊎◌, inl, inr, refl, sym, subst, ap, ◌∙◌, ℕ, zero, suc, Bool, true, not, find, List, [], ◌++◌, Option, Some, None}
+use Rattle.std.proofs.Common.{◌≡◌, refl, sym, subst, ap, ◌∙◌, ℕ, zero, suc, Bool, true, false, not, find, List, [], ◌++◌, Option, Some, None}
 use Rattle.std.proofs.lemmas.List.Folds.{list_all-append}
 use Rattle.std.specs.List.{list_all}
-use Rattle.std.specs.Prelude.{option_map}
+use Rattle.std.specs.Prelude.{is_some, option_map}
+use Rattle.pp_desk.specs.Closings.{with_parts}
 use Rattle.pp_flow.specs.Changes.{entry_of, is_after}
 use Rattle.pp_flow.specs.declared.entry.Entry.{Entry}
 use Rattle.pp_flow_law.specs.Tables.{ShowsFlow, none_leaves}
@@ -17,6 +18,7 @@ use Rattle.pp_peers.specs.declared.placing.Placed.{Placed}
 use Rattle.pp_peers.specs.declared.placing.Placed.TheVariants.{On, Dial, CloseThenDial, Wait}
 use Rattle.pp_places.specs.Around.{Around, moment_of, with_sides}
 use Rattle.pp_places.specs.Placing.{ArePlaced, IsDialledFor, IsPlaced, IsPlacedAs, given_way, goes_on_behind, next_waiting, place_for as place_in_turn, put_on as put_in_turn}
+use Rattle.pp_state.specs.Astray.{astray_where}
 use Rattle.pp_state.specs.declared.state.State.{State as Turn}
 use Rattle.pp_world.specs.Log.{Log}
 use Rattle.pp_places_law.proofs.Dials.{dials}
@@ -25,7 +27,7 @@ use Rattle.pp_places_law.proofs.Puts.{places, puts}
 use Rattle.pp_places_law.proofs.Walks.{IsNext, all_there, behind, behind_put, by_place, from_first, stops_at, walks}
 use Rattle.pp_places_law.proofs.Ways.{ways}
 use Rattle.pp_places_law.specs.Around.{MayPlace, ShowsAround}
-use Rattle.pp_places_law.specs.Places.{AllPlacesAreTheLaws, AreLed, HavePlaces, IsLed, IsUnplaced, Reaches}
+use Rattle.pp_places_law.specs.Places.{AllPlacesAreTheLaws, AreLed, HavePlaces, IsLed, IsUnplaced}
 
 -- ---- the happenings in it are calm
 
@@ -123,10 +125,10 @@ one number p May on after x y s t e ns log (CloseThenDial k) shows may late un t
 -- ---- one behind the other
 
 -- so far, and how it ends
-record Ends (number : ℕ → ℕ) (p : Turn) (more : ℕ) (after : Option ℕ) (x : Around) (log : Log) (y : Around) (s : State) : Type 0 where
+record Ends (number : ℕ → ℕ) (p : Turn) (log : Log) (y : Around) (s : State) : Type 0 where
   state : State
   leads : Leads log s state
-  ends : HavePlaces number p y state ⊎ Reaches more (moment_of p) after x log y
+  ends : y.sides.parts.is_astray ≡ false → HavePlaces number p y state
 
 nothing : (number : ℕ → ℕ) (p : Turn) (after : Option ℕ) (x : Around) (log : Log) (y : Around) (s t : State) → Stands number p after x s t → placing s ≡ record { state = t; pause = AllPlaced } → y ≡ x → HavePlaces number p y s
 nothing number p after x log y s t stands is same =
@@ -142,16 +144,24 @@ Steps p more after x log y o = elim o [
 ]
 
 loop : (number : ℕ → ℕ) (p : Turn) (May : Option ℕ → Around → Log → State → Type 0) → LeadsOn number p May → (more : ℕ) (after : Option ℕ) (x y : Around) (s t : State) (log : Log) → Stands number p after x s t → May after x log s → ArePlaced more (moment_of p) after x log y
-    → Ends number p more after x log y s
-unfolding ArePlaced Reaches
-loop number p May on zero after x y s t log stands so run = record { state = s; leads = still s log run.0; ends = inr run }
+    → Ends number p log y s
+unfolding ArePlaced
+loop number p May on zero after x y s t log stands so run = record { state = s; leads = still s log run.0; ends = by (find (is_after after) x.sides.parts.flow.waiting) refl (next_of number p after x t stands.shows) }
+  where
+    ends_as : (o : Option Entry) → find (is_after after) x.sides.parts.flow.waiting ≡ o → y ≡ with_sides (with_parts (astray_where (is_some (option_map (λ (e : Entry). e.exchange.number) o)))) x
+    ends_as o is = subst (λ (o : Option Entry). y ≡ with_sides (with_parts (astray_where (is_some (option_map (λ (e : Entry). e.exchange.number) o)))) x) is run.1
+
+    -- where one is left, this life went astray
+    by : (o : Option Entry) → find (is_after after) x.sides.parts.flow.waiting ≡ o → IsNext number t after 0 t.exchanges o → y.sides.parts.is_astray ≡ false → HavePlaces number p y s
+    by None is next well = nothing number p after x log y s t stands (stands.walks ∙ next) (ends_as None is)
+    by (Some w) is next well = absurd (let both : true ≡ false = sym (ap (λ (z : Around). z.sides.parts.is_astray) (ends_as (Some w) is)) ∙ well in cc both)
 loop number p May on (suc more) after x y s t log stands so run =
     by (find (is_after after) x.sides.parts.flow.waiting) refl (next_of number p after x t stands.shows) (λ behind_it z u v hs now ok go. loop number p May on more behind_it z y u v hs now ok go)
   where
-    by : (o : Option Entry) → find (is_after after) x.sides.parts.flow.waiting ≡ o → IsNext number t after 0 t.exchanges o → ((behind_it : Option ℕ) (z : Around) (u v : State) (hs : Log) → Stands number p behind_it z u v → May behind_it z hs u → ArePlaced more (moment_of p) behind_it z hs y → Ends number p more behind_it z hs y u) → Ends number p (suc more) after x log y s
+    by : (o : Option Entry) → find (is_after after) x.sides.parts.flow.waiting ≡ o → IsNext number t after 0 t.exchanges o → ((behind_it : Option ℕ) (z : Around) (u v : State) (hs : Log) → Stands number p behind_it z u v → May behind_it z hs u → ArePlaced more (moment_of p) behind_it z hs y → Ends number p hs y u) → Ends number p log y s
     by None is next again =
         let end : (log ≡ []) × (y ≡ x) = subst (λ (o : Option Entry). Steps p more after x log y (option_map (λ e. e.exchange.number) o)) is run in
-        record { state = s; leads = still s log end.0; ends = inl (nothing number p after x log y s t stands (stands.walks ∙ next) end.1) }
+        record { state = s; leads = still s log end.0; ends = λ well. nothing number p after x log y s t stands (stands.walks ∙ next) end.1 }
     by (Some w) is next again =
         let place : place_in_turn p.limits next.known.number x.sides ≡ place_for t next.known = places number p x t stands.shows stands.late next.known next.un in
         let at : GoesOn number p (goes_on_behind (place_for t next.known) next.known.number) step.1 step.0 s =
@@ -160,13 +170,13 @@ loop number p May on (suc more) after x y s t log stands so run =
         (subst (λ (v : Placed). IsPlacedAs v (moment_of p) next.known.number x step.1 step.0) place step.4) in
         let more_run : ArePlaced more (moment_of p) (goes_on_behind (place_for t next.known) next.known.number) step.0 step.2 y =
         subst (λ (v : Placed). ArePlaced more (moment_of p) (goes_on_behind v next.known.number) step.0 step.2 y) place step.5 in
-        let rest : Ends number p more (goes_on_behind (place_for t next.known) next.known.number) step.0 step.2 y at.behind_it =
+        let rest : Ends number p step.2 y at.behind_it =
         again (goes_on_behind (place_for t next.known) next.known.number) step.0 at.behind_it at.now step.2 at.stands
         (subst (λ (v : Placed). May (goes_on_behind v next.known.number) step.0 step.2 at.behind_it) place (on.behind_it after x step.0 next.known.number step.1 step.2 log s at.behind_it number_next step.4 step.3 at.leads so)) more_run in
         record {
           state = rest.state;
           leads = subst (λ (hs : Log). Leads hs s rest.state) (sym step.3) (leads_then (λ v. v ≡ rest.state) step.1 step.2 s at.behind_it at.leads rest.leads);
-          ends = ended {u = rest.state} rest.ends;
+          ends = rest.ends;
         }
       where
         number_next : next_waiting after x.sides ≡ Some next.known.number
@@ -175,24 +185,10 @@ loop number p May on (suc more) after x y s t log stands so run =
         step : Steps p more after x log y (Some next.known.number)
         step = subst (λ (m : ℕ). Steps p more after x log y (Some m)) next.shows.number (subst (λ (o : Option Entry). Steps p more after x log y (option_map (λ e. e.exchange.number) o)) is run)
 
-        ended : {u : State} → HavePlaces number p y u ⊎ Reaches more (moment_of p) (goes_on_behind (place_for t next.known) next.known.number) step.0 step.2 y → HavePlaces number p y u ⊎ Reaches (suc more) (moment_of p) after x log y
-        ended (inl have) = inl have
-        ended (inr reached) =
-            inr (
-              next.known.number,
-              step.0,
-              step.1,
-              step.2,
-              number_next,
-              step.3,
-              step.4,
-              subst (λ (v : Placed). Reaches more (moment_of p) (goes_on_behind v next.known.number) step.0 step.2 y) (sym (places number p x t stands.shows stands.late next.known next.un)) reached,
-            )
-
 pub run : (number : ℕ → ℕ) (p : Turn) (May : Option ℕ → Around → Log → State → Type 0) → LeadsOn number p May → (x : Around) (s : State) → ShowsAround number p x s → MayPlace s → (more : ℕ) (log : Log) (y : Around) → May None x log s → ArePlaced more (moment_of p) None x log y
-    → AreLed number p more x log y s
+    → AreLed number p log y s
 run number p May on x s shows may more log y so steps =
-    let end : Ends number p more None x log y s = loop number p May on more None x y s s log (from_start number p x s shows may) so steps in record { state = end.state; leads = end.leads; ends = end.ends }
+    let end : Ends number p log y s = loop number p May on more None x y s s log (from_start number p x s shows may) so steps in record { state = end.state; leads = end.leads; ends = end.ends }
 
 -- where no dial is refused
 pub all : AllPlacesAreTheLaws

@@ -1,6 +1,6 @@
 -- Each exchange without a place gets the law's, one behind the other: on a line, on a connection that is dialled for it, or on one behind
 -- another that gives way (RFC 2616, sections 8.1 and 8.1.2.2).
-use Rattle.std.specs.Prelude.{◌≡◌, ◌⊎◌, ℕ, zero, suc, true, [], ◌∷◌, ◌++◌, Option, Some, None}
+use Rattle.std.specs.Prelude.{◌≡◌, ℕ, zero, suc, true, false, [], ◌∷◌, ◌++◌, Option, Some, None}
 use Rattle.pp_desk.specs.Shutting.{closings}
 use Rattle.pp_flow.specs.Changes.{entry_of}
 use Rattle.pp_law.specs.Connections.{WaitsDial, WaitsDrop, exchange, place_for, placing, put_on}
@@ -56,7 +56,7 @@ DialsAreTheLaws = OfPlacing (λ number p x s. (e : Exchange) (log : Log) (y : Ar
 
 -- ---- all of them
 
--- so many got a place or found none, one behind the other, or a connection gave way
+-- so many got a place or found none, one behind the other, or a connection gave way: where a turn comes to amid its places
 unfoldable pub Reaches : ℕ → Moment → Option ℕ → Around → Log → Around → Type 0
 Reaches zero m after x log y = (log ≡ []) × (y ≡ x)
 Reaches (suc more) m after x log y =
@@ -70,12 +70,13 @@ pub record HavePlaces (number : ℕ → ℕ) (p : Turn) (y : Around) (s : State)
   pub done : is_done s ≡ true
   pub behind : ShowsAround number p y (next s)
 
--- the happenings may come, one behind the other, and lead there, unless so many did not do
-pub record AreLed (number : ℕ → ℕ) (p : Turn) (more : ℕ) (x : Around) (log : Log) (y : Around) (s : State) : Type 0 where
+-- the happenings may come, one behind the other, and lead there, unless this life went astray: the end of `Placing.ArePlaced` of
+-- `pp_places` says so, where one is left that has not had its place
+pub record AreLed (number : ℕ → ℕ) (p : Turn) (log : Log) (y : Around) (s : State) : Type 0 where
   pub state : State
   pub leads : Leads log s state
-  pub ends : HavePlaces number p y state ⊎ Reaches more (moment_of p) None x log y
+  pub ends : y.sides.parts.is_astray ≡ false → HavePlaces number p y state
 
 -- where no dial is refused
 abbrev pub AllPlacesAreTheLaws : Type 0
-AllPlacesAreTheLaws = OfPlaces (λ number p x s. (more : ℕ) (log : Log) (y : Around) → AreCalm log → ArePlaced more (moment_of p) None x log y → AreLed number p more x log y s)
+AllPlacesAreTheLaws = OfPlaces (λ number p x s. (more : ℕ) (log : Log) (y : Around) → AreCalm log → ArePlaced more (moment_of p) None x log y → AreLed number p log y s)

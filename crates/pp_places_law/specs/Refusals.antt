@@ -62,4 +62,4 @@ EachMayBeRefused number p after x s = (steps : ℕ) (hs : Log) (z : Around) (t :
     → MayBeRefused p z (placing t).state e
 
 abbrev pub AllAnswersAreTheLaws : Type 0
-AllAnswersAreTheLaws = OfPlaces (λ number p x s. (more : ℕ) (log : Log) (y : Around) → EachMayBeRefused number p None x s → ArePlaced more (moment_of p) None x log y → AreLed number p more x log y s)
+AllAnswersAreTheLaws = OfPlaces (λ number p x s. (more : ℕ) (log : Log) (y : Around) → EachMayBeRefused number p None x s → ArePlaced more (moment_of p) None x log y → AreLed number p log y s)

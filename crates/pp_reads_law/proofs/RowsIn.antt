@@ -18,7 +18,6 @@ use Rattle.pp_cache_law.specs.Reads.{AreBusy}
 use Rattle.pp_cache_law.specs.Rooms.{give_way, way_by, without_one}
 use Rattle.pp_cache_law.specs.Settles.{entered, numbered}
 use Rattle.pp_cache_law.specs.Tables.{ShowsCache, ShowsInstance, ShowsTable}
-use Rattle.pp_deciding_law.specs.Stands.{AreKept}
 use Rattle.pp_due.specs.Entering.{Comes, HasRowFor, MayCome, with_room_if_over}
 use Rattle.pp_due.specs.OnDisk.{Enters, IsBrought, kept_alone}
 use Rattle.pp_flow.specs.declared.entry.Entry.{Entry as Asking}
@@ -47,7 +46,7 @@ use Rattle.pp_steps_law.specs.Told.{AreTold}
 use Rattle.pp_store.specs.Kept.{Kept, KeptMap, kept_of as kept_in_store}
 use Rattle.pp_target.specs.Name.{name_of}
 use Rattle.pp_turns_law.proofs.Numbered.{AreSame, seats_as}
-use Rattle.pp_turns_law.specs.Rows.{IsKeptAs}
+use Rattle.pp_turns_law.specs.Rows.{AllAreKept, IsKeptAs}
 use Rattle.pp_valid.specs.declared.version.Version.{Version}
 use Rattle.pp_reads_law.proofs.Brings.{IsEntered, enters_for, enters_in, stays_with, stays_without}
 use Rattle.pp_reads_law.proofs.Given.{flow_as, given_lives, given_more, same_numbers}
@@ -73,7 +72,7 @@ same_on_disk s t key entries displaced = ap₂ (λ (texts : List Bytes) (es : Li
 abbrev kept_by : KeptMap → Bytes → List Bytes → Option Kept
 kept_by shelf key names = elim (list_any (bytes_eq (name_of key)) names) [ true ↦ None | false ↦ kept_in_store key shelf ]
 
-kept_still : (shelf : KeptMap) (m k : Memory) (s t : State) → k.outdated ≡ m.outdated → t.entries ≡ s.entries → t.displaced ≡ s.displaced → AreKept shelf m s → AreKept shelf k t
+kept_still : (shelf : KeptMap) (m k : Memory) (s t : State) → k.outdated ≡ m.outdated → t.entries ≡ s.entries → t.displaced ≡ s.displaced → AllAreKept shelf m s → AllAreKept shelf k t
 kept_still shelf m k s t outdated entries displaced are key =
     subst (λ (o : Option Entry). AreBoth IsKeptAs (kept_by shelf key k.outdated) o) (sym (same_on_disk s t key entries displaced))
     (subst (λ (names : List Bytes). AreBoth IsKeptAs (kept_by shelf key names) (row_on_disk s key)) (sym outdated) (are key))
@@ -146,7 +145,7 @@ module _ (number : ℕ → ℕ) (l : Leaving) (peers : List Peer) (shelf : KeptM
         ∙ ap (λ (n : ℕ). let j : Memory = record (with_row id key e.version kept.entry.fields e.times m) { extents = kept_to id n m.extents } in j) like.extent
 
     busy : AreBusy number m s (busy_rows p.flow)
-    busy = busies number p.name.items l peers (record { seats = p.seats.items; flow = p.flow; cache = m; refused = p.refused }) s shows.turn.steps shows.may.busy
+    busy = busies number p.name.items l peers (record { seats = p.seats.items; flow = p.flow; cache = m; refused = p.refused; is_astray = p.is_astray }) s shows.turn.steps shows.may.busy
 
     cache_then : ShowsCache after (give_way key (busy_rows p.flow) m1) t
     cache_then =
@@ -285,12 +284,32 @@ module _ (number : ℕ → ℕ) (l : Leaving) (peers : List Peer) (shelf : KeptM
       none_over : (n : ℕ) → n ≤ 1024 → nat_lt 1024 n ≡ false
       none_over n few = grind (arith, nat_tests)
 
-  nothing : (key : Bytes) (q r : Turn) → r ≡ p → q ≡ with_room_if_over r → kept_alone key shelf m ≡ None → IsAmidRead l peers shelf q (enter key true s)
-  nothing key q r same is_q none =
-      subst (λ (u : State). IsAmidRead l peers shelf q u) (sym (law (row s key) refl)) (subst (λ (y : Turn). IsAmidRead l peers shelf y s) (sym all) (record { number = number; shows = shows }))
+  -- the law has nothing of whether this life went astray
+  astray_shows : (b : Bool) → ShowsRead number l peers shelf (record p { is_astray = b }) s
+  astray_shows b = record {
+    turn = record {
+      steps = record { shows = shows.turn.steps.shows; order = shows.turn.steps.order; told = shows.turn.steps.told; refused = shows.turn.steps.refused };
+      name = shows.turn.name;
+      shares = shows.turn.shares;
+      clock = shows.turn.clock;
+      ticked = shows.turn.ticked;
+      stopped = shows.turn.stopped;
+      bounded = shows.turn.bounded;
+    };
+    disk = shows.disk;
+    may = record { few = shows.may.few; busy = shows.may.busy; given = shows.may.given };
+    forgotten = shows.forgotten;
+  }
+
+  nothing : (b : Bool) (key : Bytes) (q r : Turn) → r ≡ record p { is_astray = b } → q ≡ with_room_if_over r → kept_alone key shelf m ≡ None → IsAmidRead l peers shelf q (enter key true s)
+  nothing b key q r same is_q none =
+      subst (λ (u : State). IsAmidRead l peers shelf q u) (sym (law (row s key) refl)) (subst (λ (y : Turn). IsAmidRead l peers shelf y s) (sym all) (record { number = number; shows = astray_shows b }))
     where
-      all : q ≡ p
-      all = is_q ∙ ap (λ (y : Turn). with_room_if_over y) same ∙ ap (λ (b : Bool). elim b as (λ c. Turn) [ true ↦ with_room p | false ↦ p ]) few_now
+      abbrev p_so : Turn
+      p_so = record p { is_astray = b }
+
+      all : q ≡ p_so
+      all = is_q ∙ ap (λ (y : Turn). with_room_if_over y) same ∙ ap (λ (c : Bool). elim c as (λ d. Turn) [ true ↦ with_room p_so | false ↦ p_so ]) few_now
 
       none_by : (o : Option Entry) → AreBoth IsKeptAs None o → o ≡ None
       none_by None both = refl
@@ -329,7 +348,7 @@ module _ (number : ℕ → ℕ) (l : Leaving) (peers : List Peer) (shelf : KeptM
       some kept (Some e) alone is both enters = comes_in key r.cache kept e enters alone is both room q (is_q ∙ ap (λ (y : Turn). with_room_if_over y) mid_is) bounded
 
       by : (o : Option Kept) → kept_alone key shelf m ≡ o → IsBrought key o m r.cache → IsAmidRead l peers shelf q (enter key true s)
-      by None is same = nothing key q r (mid_is ∙ ap (λ (k : Memory). let z : Turn = record p { cache = k } in z) same) is_q is
+      by None is same = nothing p.is_astray key q r (mid_is ∙ ap (λ (k : Memory). let z : Turn = record p { cache = k } in z) same) is_q is
       by (Some kept) is enters =
           let alone : row s key ≡ None = alone_if key kept is in
           let same : kept_alone key shelf m ≡ (elim (list_any (bytes_eq (name_of key)) m.outdated) as (λ c. Option Kept) [ true ↦ None | false ↦ kept_in_store key shelf ]) =
@@ -341,7 +360,7 @@ come_in number l peers shelf key p q s shows room it given bounded = by it.comes
   where
     by : (comes : MayCome shelf key p it.entered) → IsGivenRow shelf key p it.entered comes → IsAmidRead l peers shelf q (enter key true s)
     by (inl comes) given = by_comes number l peers shelf p s shows key q it.entered room comes it.room bounded
-    by (inr stays) none = nothing number l peers shelf p s shows key q it.entered stays it.room none
+    by (inr stays) none = nothing number l peers shelf p s shows true key q it.entered stays it.room none
 
 pub brought : RowsAreBroughtAsTheLaws
 unfolding bring_row

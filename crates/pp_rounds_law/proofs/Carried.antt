@@ -1,4 +1,5 @@
--- Each client stays at its place with its request, its reply and what its exchange joined, as exchanges end, lose attempts and begin.
+-- Each client stays at its place with its request, its reply and what its exchange joined, as exchanges end, lose attempts and begin; and a
+-- life that went astray stays so.
 use Rattle.std.proofs.Common.{◌≡◌, refl, sym, subst, ap, ◌∙◌, ℕ, zero, suc, Bool, true, false, ◌==◌, ◌||◌, cond, length, List, [], ◌∷◌, map, Option, Some, None, le_refl, le_trans}
 use Rattle.std.specs.Prelude.{slice_get, slice_set}
 use Rattle.pp_cache.specs.Memory.{Memory, retired_at}
@@ -62,6 +63,7 @@ pub record Carries (exact : Bool) (p q : Parts) : Type 0 where
   pub count : length q.seats ≡ length p.seats
   pub each : (i : ℕ) (new : Seat) → slice_get q.seats i ≡ Some new → WasAt p.seats i new
   pub memory : Holds exact p.cache q.cache
+  pub astray : p.is_astray ≡ true → q.is_astray ≡ true
 
 holds_itself : (exact : Bool) (m : Memory) → Holds exact m m
 holds_itself true m = refl
@@ -76,13 +78,14 @@ holds_then false m k l one two = λ next. record {
 }
 
 pub carries_itself : (exact : Bool) (p : Parts) → Carries exact p p
-carries_itself exact p = record { count = refl; each = λ i new at. record { old = new; here = at; is = same_seat new }; memory = holds_itself exact p.cache }
+carries_itself exact p = record { count = refl; each = λ i new at. record { old = new; here = at; is = same_seat new }; memory = holds_itself exact p.cache; astray = λ is. is }
 
 pub carries_then : (exact : Bool) (p q r : Parts) → Carries exact p q → Carries exact q r → Carries exact p r
 carries_then exact p q r one two = record {
   count = two.count ∙ one.count;
   each = λ i new at. join i new (two.each i new at);
   memory = holds_then exact p.cache q.cache r.cache one.memory two.memory;
+  astray = λ is. two.astray (one.astray is);
 }
   where
     join : (i : ℕ) (new : Seat) → WasAt q.seats i new → WasAt p.seats i new
@@ -90,12 +93,12 @@ carries_then exact p q r one two = record {
 
 -- where the same is in memory, none came in
 pub loosely : (p q : Parts) → Carries true p q → Carries false p q
-loosely p q carries = record { count = carries.count; each = carries.each; memory = subst (λ (k : Memory). Holds false p.cache k) (sym carries.memory) (holds_itself false p.cache) }
+loosely p q carries = record { count = carries.count; each = carries.each; memory = subst (λ (k : Memory). Holds false p.cache k) (sym carries.memory) (holds_itself false p.cache); astray = carries.astray }
 
 -- ---- exchanges alone change, or one client
 
 pub carries_flow : (exact : Bool) (p : Parts) (f : Exchanges) → Carries exact p (record p { flow = f })
-carries_flow exact p f = record { count = refl; each = λ i new at. record { old = new; here = at; is = same_seat new }; memory = holds_itself exact p.cache }
+carries_flow exact p f = record { count = refl; each = λ i new at. record { old = new; here = at; is = same_seat new }; memory = holds_itself exact p.cache; astray = λ is. is }
 
 set_at : (i j : ℕ) (seats : List Seat) (seat new other : Seat) → slice_get seats i ≡ Some seat → IsSame seat new → slice_get (slice_set seats i new) j ≡ Some other → WasAt seats j other
 set_at i j seats seat new other here is at = by (i == j) refl
@@ -115,6 +118,7 @@ carries_seat exact i f p same = by (slice_get p.seats i) refl
       count = set_length i p.seats (f seat);
       each = λ j new at. set_at i j p.seats seat (f seat) new here (same seat) at;
       memory = holds_itself exact p.cache;
+      astray = λ is. is;
     }
 
 carries_where : (exact : Bool) (o : Option ℕ) (f : Seat → Seat) (p : Parts) → ((seat : Seat) → IsSame seat (f seat)) → Carries exact p (on_seat_where o f p)
@@ -187,8 +191,8 @@ carries_key : (key : List ℕ) (p : Parts) → Carries false p (cleared_key key 
 carries_key key p = by (has_noted key p.refused)
   where
     by : (b : Bool) → Carries false p (record (cleared_key key p) { seats = cond b (map (decided_anew key) p.seats) p.seats })
-    by true = record { count = map_length (decided_anew key) p.seats; each = λ i new at. map_at (decided_anew key) (anew_same key) i p.seats new at; memory = retired_stands key p.cache }
-    by false = record { count = refl; each = λ i new at. record { old = new; here = at; is = same_seat new }; memory = retired_stands key p.cache }
+    by true = record { count = map_length (decided_anew key) p.seats; each = λ i new at. map_at (decided_anew key) (anew_same key) i p.seats new at; memory = retired_stands key p.cache; astray = λ is. is }
+    by false = record { count = refl; each = λ i new at. record { old = new; here = at; is = same_seat new }; memory = retired_stands key p.cache; astray = λ is. is }
 
 carries_cleared : (o : Option (List ℕ)) (p : Parts) → Carries false p (cleared_of o p)
 carries_cleared None p = carries_itself false p

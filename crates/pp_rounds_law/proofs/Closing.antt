@@ -127,10 +127,10 @@ module _ (terms : List Term) (before : Log) (number : ℕ → ℕ) (shelf : Kept
   state_is = ap (λ (d : Desk). d.state) over.rest
 
   abbrev with_seats : List Seat → Parts
-  with_seats seats = record { seats = seats; flow = p.flow; cache = p.cache; refused = p.refused }
+  with_seats seats = record { seats = seats; flow = p.flow; cache = p.cache; refused = p.refused; is_astray = p.is_astray }
 
   parts_is : parts q ≡ with_seats (seats_left p)
-  parts_is = ap (λ (r : Turn). (let z : Parts = record { seats = q.seats.items; flow = r.flow; cache = r.cache; refused = r.refused } in z)) state_is ∙ ap with_seats over.seats
+  parts_is = ap (λ (r : Turn). (let z : Parts = record { seats = q.seats.items; flow = r.flow; cache = r.cache; refused = r.refused; is_astray = r.is_astray } in z)) state_is ∙ ap with_seats over.seats
 
   same_name : q.name.items ≡ p.name.items
   same_name = ap (λ (r : Turn). r.name.items) state_is
@@ -174,7 +174,7 @@ module _ (terms : List Term) (before : Log) (number : ℕ → ℕ) (shelf : Kept
       by : (b : Bool) → q.awake.items ≡ cond b (places (length (seats_left p))) p.awake.items → q.seats.items ≡ cond b (filter (stays p.is_stopped) p.seats.items) p.seats.items → AreAwake q
       by true looked left = all_awake q (looked ∙ ap (λ (seats : List Seat). places (length seats)) (sym over.seats))
       by false looked left =
-          awake_on true p q (record { count = ap (λ (seats : List Seat). length seats) left; each = λ i new here. record { old = new; here = ap (λ (seats : List Seat). slice_get seats i) (sym left) ∙ here; is = same_seat new }; memory = same_cache })
+          awake_on true p q (record { count = ap (λ (seats : List Seat). length seats) left; each = λ i new here. record { old = new; here = ap (λ (seats : List Seat). slice_get seats i) (sym left) ∙ here; is = same_seat new }; memory = same_cache; astray = λ is. ap (λ (r : Turn). r.is_astray) state_is ∙ is })
           looked (ap (λ (r : Turn). r.is_ticked) state_is) amid.awake
 
   left_links : y.links ≡ without_all (over_clients p ++ over_peers false peers) x.links

@@ -1,5 +1,5 @@
 -- The decisions of a round, one behind the other.
-use Rattle.std.proofs.Common.{◌≡◌, ◌≤◌, ◌+◌, ◌⊎◌, inl, inr, refl, sym, subst, ap, ◌∙◌, ℕ, zero, suc, Bool, true, false, length, List, [], ◌∷◌, ◌++◌, append-nil, Option, Some, None, arith}
+use Rattle.std.proofs.Common.{◌≡◌, ◌≤◌, ◌+◌, refl, sym, subst, ap, ◌∙◌, ℕ, zero, suc, Bool, true, false, length, List, [], ◌∷◌, ◌++◌, Option, Some, None, arith}
 use Rattle.std.specs.List.{All}
 use Rattle.std.specs.Prelude.{count_by, option_and_then, option_map, slice_get, vec_capacity}
 use Rattle.pp_cache_law.proofs.PairLemmas.{count_first}
@@ -23,7 +23,8 @@ use Rattle.pp_places_law.specs.Closings.{AreOpen}
 use Rattle.pp_proxy.specs.Deciding.{Decides, TakesOne}
 use Rattle.pp_proxy.specs.Moving.{Moving, with_state}
 use Rattle.pp_proxy.specs.Taking.{due_log_for, due_log_of, who_at}
-use Rattle.pp_rounds_law.proofs.Decisions.{decides_on}
+use Rattle.pp_rounds_law.proofs.Astray.{first_given, found_given}
+use Rattle.pp_rounds_law.proofs.Decisions.{decides_one}
 use Rattle.pp_rounds_law.specs.Decisions.{AllDecided, Passes}
 use Rattle.pp_seats.specs.declared.due.Due.{Due}
 use Rattle.pp_seats.specs.declared.due.Due.TheVariants.{Decide, CutOff}
@@ -43,7 +44,7 @@ use Rattle.pp_rounds_law.proofs.Coming.{comes_by, comes_then, none_fail}
 use Rattle.pp_rounds_law.proofs.Noted.{IsBehind, SetAs, cut_leads, forgotten_leads, set_itself, taken_leads}
 use Rattle.pp_rounds_law.proofs.Went.{Went, as_many, went_found, went_one, went_then}
 use Rattle.pp_rounds_law.specs.Coming.{ComesTo}
-use Rattle.pp_rounds_law.specs.InRounds.{AreDecided, DecisionsInARound, TakesSoMany, phase_behind}
+use Rattle.pp_rounds_law.specs.InRounds.{AreDecided, DecisionsInARound, phase_behind}
 use Rattle.pp_rounds_law.specs.Stands.{StandsInRound}
 use Rattle.pp_rounds_law.specs.Supplies.{RoundSupplies}
 
@@ -132,49 +133,36 @@ Then more shelf x found log y any due = elim due [
 ]
 
 module _ (terms : List Term) (shelf : KeptMap) (I : Turn → State → Type 0) (supplies : RoundSupplies shelf I) where
-  abbrev Ends : ℕ → Log → Moving → Moving → Log → Bool → State → Type 0
-  Ends more before x y log any s = AreDecided terms before shelf I more x y log any s
+  abbrev Ends : Log → Moving → Log → Bool → State → Type 0
+  Ends before y log any s = AreDecided terms before shelf I y log any s
 
-  nothing : (more : ℕ) (before : Log) (x y z : Moving) (log : Log) (any : Bool) (s : State) → Obeys terms s before → StandsInRound shelf z s → I z.desk.state s → y ≡ z → log ≡ [] → any ≡ false → (first_due s ≡ None) ⊎ TakesSoMany more shelf x log y → Ends more before x y log any s
-  nothing more before x y z log any s obeys stands holds same none isnt ends = record {
+  nothing : (before : Log) (y z : Moving) (log : Log) (any : Bool) (s : State) → Obeys terms s before → StandsInRound shelf z s → I z.desk.state s → y ≡ z → log ≡ [] → any ≡ false → first_due s ≡ None → Ends before y log any s
+  nothing before y z log any s obeys stands holds same none isnt nothing_due = record {
     then = s;
     comes = subst (λ (hs : Log). ComesTo terms before hs s s) (sym none) (comes_by terms [] before s s (none_fail s 0 refl) obeys refl);
     stands = subst (λ (w : Moving). StandsInRound shelf w s) (sym same) stands;
     holds = subst (λ (w : Moving). I w.desk.state s) (sym same) holds;
     phase = ap (λ (b : Bool). phase_behind b s.phase) (sym isnt);
     unless = λ none. refl;
-    ends = ends;
+    none = nothing_due;
   }
 
-  one_by : (before : Log) (x : Moving) (s : State) (found : Turn) (d : ℕ × Due) (next : Moving) (first : Log) → Obeys terms s before → StandsInRound shelf x s → I x.desk.state s → FirstDue shelf x.desk.state.awake.items x.desk.state found (Some d)
-      → TakesOne d.0 d.1 (with_state found x) first next → AllDecided shelf I next first s
-  unfolding Decides
-  one_by before x s found d next first obeys stands holds looked takes =
-      decides_on terms shelf I (suc zero) next supplies.decides before x first true s obeys (behind_of shelf x s stands) holds
-      (found, Some d, looked, (next, first, [], false, sym (append-nil first), takes, (refl, refl, refl), refl))
-
-  more_of : (more : ℕ) (x y : Moving) (log : Log) (found : Turn) (d : ℕ × Due) (next : Moving) (first rest : Log) (t : State) → FirstDue shelf x.desk.state.awake.items x.desk.state found (Some d) → log ≡ first ++ rest → TakesOne d.0 d.1 (with_state found x) first next
-      → (first_due t ≡ None) ⊎ TakesSoMany more shelf next rest y → (first_due t ≡ None) ⊎ TakesSoMany (suc more) shelf x log y
-  unfolding TakesSoMany
-  more_of more x y log found d next first rest t looked is takes (inl none) = inl none
-  more_of more x y log found d next first rest t looked is takes (inr so) = inr (found, d.0, d.1, next, first, rest, looked, is, takes, so)
-
   abbrev Onward : ℕ → Type 0
-  Onward more = (before : Log) (x y : Moving) (log : Log) (any : Bool) (s : State) → Obeys terms s before → StandsInRound shelf x s → I x.desk.state s → Decides more shelf x log y any → Ends more before x y log any s
+  Onward more = (before : Log) (x y : Moving) (log : Log) (any : Bool) (s : State) → Obeys terms s before → StandsInRound shelf x s → I x.desk.state s → Decides more shelf x log y any → y.desk.state.is_astray ≡ false → Ends before y log any s
 
   step : (more : ℕ) → Onward more → (before : Log) (x y : Moving) (log : Log) (any : Bool) (s : State) → Obeys terms s before → StandsInRound shelf x s → I x.desk.state s → (found : Turn) (due : Option (ℕ × Due)) → FirstDue shelf x.desk.state.awake.items x.desk.state found due
-      → Then more shelf x found log y any due → Ends (suc more) before x y log any s
-  step more onward before x y log any s obeys stands holds found None looked here =
-      let given : FirstDueInMemory shelf x.desk.state.awake.items x.desk.state found None = supplies.decides.given x.desk.state found s None holds looked in
+      → Then more shelf x found log y any due → y.desk.state.is_astray ≡ false → Ends before y log any s
+  step more onward before x y log any s obeys stands holds found None looked here well =
+      let given : FirstDueInMemory shelf x.desk.state.awake.items x.desk.state found None = first_given shelf x.desk.state.awake.items x.desk.state found None looked (sym (ap (λ (z : Moving). z.desk.state.is_astray) here.1) ∙ well) in
       let behind : StandsBehind x.desk.peers shelf x.desk.state s = behind_of shelf x s stands in
       let none : NoneIsNext x.desk.peers shelf found s = none_next behind.number x.desk.peers shelf x.desk.state found s behind.stands (sound_turns terms s before obeys) given in
       let after_it : I found s = supplies.decides.none x.desk.state found s holds given in
-      nothing (suc more) before x y (with_state found x) log any s obeys
+      nothing before y (with_state found x) log any s obeys
       (stands_on shelf x (with_state found x) s s stands (went_found x found (first_keeps shelf x.desk.state.awake.items x.desk.state found None given)) (set_itself s) none.behind)
-      after_it here.1 here.0 here.2 (inl none.none)
-  step more onward before x y log any s obeys stands holds found (Some d) looked (next, first, rest, later, is, takes, decides, any_is) =
-      let given : FirstDueInMemory shelf x.desk.state.awake.items x.desk.state found (Some d) = supplies.decides.given x.desk.state found s (Some d) holds looked in
-      let one : AllDecided shelf I next first s = one_by before x s found d next first obeys stands holds looked takes in
+      after_it here.1 here.0 here.2 none.none
+  step more onward before x y log any s obeys stands holds found (Some d) looked (next, first, rest, later, is, takes, decides, any_is) well =
+      let given : FirstDueInMemory shelf x.desk.state.awake.items x.desk.state found (Some d) = found_given more shelf x next y first rest later found d looked takes decides well in
+      let one : AllDecided shelf I next first s = decides_one terms shelf I supplies.decides before x s obeys (behind_of shelf x s stands) holds found d next first given takes in
       let seat : (seat : Seat) × (slice_get found.seats.items d.0 ≡ Some seat) = seat_due d.0 found d.1 (found_due shelf x.desk.state.awake.items x.desk.state found d.0 d.1 given) in
       let who : who_at d.0 found ≡ Some (seat.0.client.id, seat.0.index) = ap (λ (o : Option Seat). option_map (λ (z : Seat). (z.client.id, z.index)) o) seat.1 in
       let log_is : first ≡ due_log_for (seat.0.client.id, seat.0.index) d.0 d.1 found = takes.log_is ∙ ap (λ (o : Option (ℕ × ℕ)). due_log_of o d.0 d.1 found) who in
@@ -184,7 +172,7 @@ module _ (terms : List Term) (shelf : KeptMap) (I : Turn → State → Type 0) (
       let went : Went x next =
       went_then x (with_state found x) next (went_found x found (first_keeps shelf x.desk.state.awake.items x.desk.state found (Some d) given)) (went_one d.0 d.1 (with_state found x) first next takes) in
       let there : StandsInRound shelf next one.then = stands_on shelf x next s one.then stands went law.set one.stands in
-      let last : Ends more (before ++ first) next y rest later one.then = onward (before ++ first) next y rest later one.then came.obeys there one.holds decides in
+      let last : Ends (before ++ first) y rest later one.then = onward (before ++ first) next y rest later one.then came.obeys there one.holds decides well in
       record {
         then = last.then;
         comes = subst (λ (hs : Log). ComesTo terms before hs s last.then) (sym is) (comes_then terms before first rest s one.then last.then came last.comes);
@@ -192,13 +180,13 @@ module _ (terms : List Term) (shelf : KeptMap) (I : Turn → State → Type 0) (
         holds = last.holds;
         phase = last.phase ∙ still_deciding later one.then.phase law.phase ∙ ap (λ (b : Bool). phase_behind b s.phase) (sym any_is);
         unless = λ none. absurd (let bad : true ≡ false = sym any_is ∙ none in cc bad);
-        ends = more_of more x y log found d next first rest last.then looked is takes last.ends;
+        none = last.none;
       }
 
   pub decides_round : (more : ℕ) → Onward more
-  unfolding Decides TakesSoMany
-  decides_round zero before x y log any s obeys stands holds it = nothing zero before x y x log any s obeys stands holds it.1 it.0 it.2 (inr (it.0, it.1))
-  decides_round (suc more) before x y log any s obeys stands holds (found, due, first, rest) = step more (decides_round more) before x y log any s obeys stands holds found due first rest
+  unfolding Decides
+  decides_round zero before x y log any s obeys stands holds it well = absurd (let both : true ≡ false = sym (ap (λ (z : Moving). z.desk.state.is_astray) it.1) ∙ well in cc both)
+  decides_round (suc more) before x y log any s obeys stands holds (found, due, first, rest) well = step more (decides_round more) before x y log any s obeys stands holds found due first rest well
 
 pub decisions : DecisionsInARound
-decisions terms before shelf test more x y log any s supplies obeys stands holds it = decides_round terms shelf (Passes test) supplies more before x y log any s obeys stands holds it
+decisions terms before shelf test more x y log any s supplies obeys stands holds it well = decides_round terms shelf (Passes test) supplies more before x y log any s obeys stands holds it well

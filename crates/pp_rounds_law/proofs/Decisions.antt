@@ -50,6 +50,7 @@ use Rattle.pp_world.specs.declared.happening.Happening.TheVariants.{Noted}
 use Rattle.pp_world.specs.declared.note.Cause.{Cause}
 use Rattle.pp_world.specs.declared.note.Decision.{Decision}
 use Rattle.pp_world.specs.declared.note.Remark.TheVariants.{Cut, Taken}
+use Rattle.pp_rounds_law.proofs.Astray.{first_given, found_given}
 use Rattle.pp_rounds_law.specs.Decisions.{AllDecided, AllLead, Passes, Supplies}
 
 -- ---- a log that goes on so
@@ -190,17 +191,26 @@ Then more shelf x found log y any due = elim due [
 abbrev Onward : List Term → KeptMap → (Turn → State → Type 0) → ℕ → Moving → Type 0
 Onward terms shelf I more y = (before : Log) (x : Moving) (log : Log) (any : Bool) (s : State) → Obeys terms s before → StandsBehind x.desk.peers shelf x.desk.state s → I x.desk.state s → Decides more shelf x log y any → AllDecided shelf I y log s
 
-one_more : (terms : List Term) (shelf : KeptMap) (I : Turn → State → Type 0) (more : ℕ) (y : Moving) → Supplies shelf I → Onward terms shelf I more y → (before : Log) (x : Moving) (log : Log) (any : Bool) (s : State) → Obeys terms s before → StandsBehind x.desk.peers shelf x.desk.state s → I x.desk.state s
+-- one alone
+step_on : (terms : List Term) (shelf : KeptMap) (I : Turn → State → Type 0) → Supplies shelf I → (before : Log) (x : Moving) (s : State) → Obeys terms s before → StandsBehind x.desk.peers shelf x.desk.state s → I x.desk.state s → (found : Turn) (d : ℕ × SeatDue) (next : Moving) (one : Log)
+    → FirstDueInMemory shelf x.desk.state.awake.items x.desk.state found (Some d) → TakesOne d.0 d.1 (with_state found x) one next → Stepped shelf I next one s
+step_on terms shelf I supplies before x s obeys stands holds found d next one given takes =
+    stepped terms before shelf I supplies s obeys x.desk.peers x.desk.state found stands holds (with_state found x) next one d.0 refl refl d.1 given (client_at terms before shelf I supplies s obeys x.desk.peers x.desk.state found stands holds d.0 d.1 given) takes
+
+pub decides_one : (terms : List Term) (shelf : KeptMap) (I : Turn → State → Type 0) → Supplies shelf I → (before : Log) (x : Moving) (s : State) → Obeys terms s before → StandsBehind x.desk.peers shelf x.desk.state s → I x.desk.state s → (found : Turn) (d : ℕ × SeatDue) (next : Moving) (one : Log)
+    → FirstDueInMemory shelf x.desk.state.awake.items x.desk.state found (Some d) → TakesOne d.0 d.1 (with_state found x) one next → AllDecided shelf I next one s
+decides_one terms shelf I supplies before x s obeys stands holds found d next one given takes =
+    let step : Stepped shelf I next one s = step_on terms shelf I supplies before x s obeys stands holds found d next one given takes in record { then = step.then; leads = step.leads_on; stands = step.stands; holds = step.holds }
+
+one_more : (terms : List Term) (shelf : KeptMap) (I : Turn → State → Type 0) (more : ℕ) (y : Moving) → Supplies shelf I → y.desk.state.is_astray ≡ false → Onward terms shelf I more y → (before : Log) (x : Moving) (log : Log) (any : Bool) (s : State) → Obeys terms s before → StandsBehind x.desk.peers shelf x.desk.state s → I x.desk.state s
     → (found : Turn) (due : Option (ℕ × SeatDue)) → FirstDue shelf x.desk.state.awake.items x.desk.state found due → Then more shelf x found log y any due → AllDecided shelf I y log s
-one_more terms shelf I more y supplies onward before x log any s obeys stands holds found None looked here =
-    let given : FirstDueInMemory shelf x.desk.state.awake.items x.desk.state found None = supplies.given x.desk.state found s None holds looked in
+one_more terms shelf I more y supplies well onward before x log any s obeys stands holds found None looked here =
+    let given : FirstDueInMemory shelf x.desk.state.awake.items x.desk.state found None = first_given shelf x.desk.state.awake.items x.desk.state found None looked (sym (ap (λ (z : Moving). z.desk.state.is_astray) here.1) ∙ well) in
     let none : NoneIsNext x.desk.peers shelf found s = none_next stands.number x.desk.peers shelf x.desk.state found s stands.stands (sound_turns terms s before obeys) given in
     subst (λ (z : Moving). AllDecided shelf I z log s) (sym here.1)
     (subst (λ (hs : Log). AllDecided shelf I (with_state found x) hs s) (sym here.0) (record { then = s; leads = refl; stands = none.behind; holds = supplies.none x.desk.state found s holds given }))
-one_more terms shelf I more y supplies onward before x log any s obeys stands holds found (Some d) looked (next, one, others, later, is, takes, more_of, any_is) =
-    let given : FirstDueInMemory shelf x.desk.state.awake.items x.desk.state found (Some d) = supplies.given x.desk.state found s (Some d) holds looked in
-    let step : Stepped shelf I next one s =
-    stepped terms before shelf I supplies s obeys x.desk.peers x.desk.state found stands holds (with_state found x) next one d.0 refl refl d.1 given (client_at terms before shelf I supplies s obeys x.desk.peers x.desk.state found stands holds d.0 d.1 given) takes in
+one_more terms shelf I more y supplies well onward before x log any s obeys stands holds found (Some d) looked (next, one, others, later, is, takes, more_of, any_is) =
+    let step : Stepped shelf I next one s = step_on terms shelf I supplies before x s obeys stands holds found d next one (found_given more shelf x next y one others later found d looked takes more_of well) takes in
     let behind : Obeys terms step.then (before ++ one) = obeys_along terms one before s step.then step.calm obeys step.leads_on in
     let last : AllDecided shelf I y others step.then = onward (before ++ one) next others later step.then behind step.stands step.holds more_of in
     record {
@@ -210,12 +220,11 @@ one_more terms shelf I more y supplies onward before x log any s obeys stands ho
       holds = last.holds;
     }
 
-pub decides_on : (terms : List Term) (shelf : KeptMap) (I : Turn → State → Type 0) (more : ℕ) (y : Moving) → Supplies shelf I → Onward terms shelf I more y
+decides_on : (terms : List Term) (shelf : KeptMap) (I : Turn → State → Type 0) (more : ℕ) (y : Moving) → Supplies shelf I → y.desk.state.is_astray ≡ false → Onward terms shelf I more y
 unfolding Decides
-decides_on terms shelf I zero y supplies before x log any s obeys stands holds it =
-    subst (λ (z : Moving). AllDecided shelf I z log s) (sym it.1) (subst (λ (hs : Log). AllDecided shelf I x hs s) (sym it.0) (record { then = s; leads = refl; stands = stands; holds = holds }))
-decides_on terms shelf I (suc more) y supplies before x log any s obeys stands holds (found, due, first, rest) =
-    one_more terms shelf I more y supplies (decides_on terms shelf I more y supplies) before x log any s obeys stands holds found due first rest
+decides_on terms shelf I zero y supplies well before x log any s obeys stands holds it = absurd (let both : true ≡ false = sym (ap (λ (z : Moving). z.desk.state.is_astray) it.1) ∙ well in cc both)
+decides_on terms shelf I (suc more) y supplies well before x log any s obeys stands holds (found, due, first, rest) =
+    one_more terms shelf I more y supplies well (decides_on terms shelf I more y supplies well) before x log any s obeys stands holds found due first rest
 
 pub all_lead : AllLead
-all_lead terms before shelf test more x y log any s supplies obeys stands holds it = decides_on terms shelf (Passes test) more y supplies before x log any s obeys stands holds it
+all_lead terms before shelf test more x y log any s supplies obeys stands holds it well = decides_on terms shelf (Passes test) more y supplies well before x log any s obeys stands holds it

@@ -55,7 +55,8 @@ use Rattle.pp_turns_law.specs.Rows.{AreReady}
 use Rattle.pp_world.specs.Log.{Log}
 use Rattle.pp_rounds_law.proofs.Bounded.{lost_bounded}
 use Rattle.pp_rounds_law.proofs.Exchanges.{over_exchanges, over_few, over_going, over_once, placed_clients, placed_few, placed_going, placed_once}
-use Rattle.pp_rounds_law.proofs.Waits.{carries_reached, goes_on, waits_there}
+use Rattle.pp_rounds_law.proofs.Places.{carries_reached}
+use Rattle.pp_rounds_law.proofs.Waits.{goes_on, waits_there}
 use Rattle.pp_rounds_law.specs.Dials.{AllDialsMayBeRefused, DialsMayBeRefused, MayAskBehind, MayGoWithout, StandsToPlace}
 
 -- ---- of the law
@@ -126,7 +127,7 @@ module _ (terms : List Term) (log : Log) (number : ℕ → ℕ) (p : Turn) (x z 
   began = subst (λ (q : Parts). ShowsSteps number p.name.items none_leaves x.sides.peers q s) stands.is stands.shows.turn.steps
 
   carried : Carries false (parts p) z.sides.parts
-  carried = subst (λ (q : Parts). Carries false q z.sides.parts) stands.is (carries_reached steps (moment_of p) x z hs reaches)
+  carried = subst (λ (q : Parts). Carries false q z.sides.parts) stands.is (carries_reached steps (moment_of p) None x z hs reaches)
 
   -- ---- it is over
 
@@ -179,7 +180,7 @@ module _ (terms : List Term) (log : Log) (number : ℕ → ℕ) (p : Turn) (x z 
         carries_then false (parts p) lost left (carries_then false (parts p) z.sides.parts lost carried (carries_lost y.exchange z.sides.parts)) (carries_ended false e.number lost)
 
     abbrev turn : Turn
-    turn = record p { seats = record p.seats { items = left.seats; ok = (p.seats.ok.0 ∙ sym carried_left.count, p.seats.ok.1) }; flow = left.flow; cache = left.cache; refused = left.refused }
+    turn = record p { seats = record p.seats { items = left.seats; ok = (p.seats.ok.0 ∙ sym carried_left.count, p.seats.ok.1) }; flow = left.flow; cache = left.cache; refused = left.refused; is_astray = left.is_astray }
 
     abbrev asked : Parts
     asked = filled turn.is_stopped turn.name.items turn.awake.items (parts turn)
@@ -188,7 +189,7 @@ module _ (terms : List Term) (log : Log) (number : ℕ → ℕ) (p : Turn) (x z 
     carried_asked = carries_filled turn.is_stopped turn.name.items turn.awake.items (parts turn)
 
     abbrev behind : Turn
-    behind = record turn { seats = record turn.seats { items = asked.seats; ok = (turn.seats.ok.0 ∙ sym carried_asked.count, turn.seats.ok.1) }; flow = asked.flow; cache = asked.cache; refused = asked.refused }
+    behind = record turn { seats = record turn.seats { items = asked.seats; ok = (turn.seats.ok.0 ∙ sym carried_asked.count, turn.seats.ok.1) }; flow = asked.flow; cache = asked.cache; refused = asked.refused; is_astray = asked.is_astray }
 
     awake_then : AreAwake turn
     awake_then = awake_on false p turn carried_left refl refl stands.awake

@@ -165,11 +165,11 @@ module _ (terms : List Term) (before : Log) (number : ℕ → ℕ) (shelf : Kept
       subst (λ (y : Sides). Carries true (parts x.desk.state) y.parts) (sym given_is)
       (carries_then true (parts x.desk.state) left.parts given_up carried_left (carries_given_up (flow_numbers left.parts.flow.waiting) left.parts))
 
-  given_state : record given.state { seats = x.desk.state.seats; flow = x.desk.state.flow; cache = x.desk.state.cache; refused = x.desk.state.refused } ≡ x.desk.state
+  given_state : record given.state { seats = x.desk.state.seats; flow = x.desk.state.flow; cache = x.desk.state.cache; refused = x.desk.state.refused; is_astray = x.desk.state.is_astray } ≡ x.desk.state
   given_state =
-      let one : record given.state { seats = seen.state.seats; flow = seen.state.flow; cache = seen.state.cache; refused = seen.state.refused } ≡ seen.state = ap (λ (d : Desk). d.state) gives.rest in
-      let two : record seen.state { seats = x.desk.state.seats; flow = x.desk.state.flow; cache = x.desk.state.cache; refused = x.desk.state.refused } ≡ x.desk.state = ap (λ (d : Desk). d.state) drops.rest in
-      ap (λ (r : Turn). record r { seats = x.desk.state.seats; flow = x.desk.state.flow; cache = x.desk.state.cache; refused = x.desk.state.refused }) one ∙ two
+      let one : record given.state { seats = seen.state.seats; flow = seen.state.flow; cache = seen.state.cache; refused = seen.state.refused; is_astray = seen.state.is_astray } ≡ seen.state = ap (λ (d : Desk). d.state) gives.rest in
+      let two : record seen.state { seats = x.desk.state.seats; flow = x.desk.state.flow; cache = x.desk.state.cache; refused = x.desk.state.refused; is_astray = x.desk.state.is_astray } ≡ x.desk.state = ap (λ (d : Desk). d.state) drops.rest in
+      ap (λ (r : Turn). record r { seats = x.desk.state.seats; flow = x.desk.state.flow; cache = x.desk.state.cache; refused = x.desk.state.refused; is_astray = x.desk.state.is_astray }) one ∙ two
 
   same_name : given.state.name.items ≡ name
   same_name = ap (λ (r : Turn). r.name.items) given_state
@@ -249,8 +249,8 @@ module _ (terms : List Term) (before : Log) (number : ℕ → ℕ) (shelf : Kept
       carries_then true (parts x.desk.state) (parts given.state) (parts asked.state) carried_given
       (subst (λ (p : Parts). Carries true (parts given.state) p) (sym is_filled.is) (carries_filled given.state.is_stopped given.state.name.items given.state.awake.items (parts given.state)))
 
-  asked_state : record asked.state { seats = x.desk.state.seats; flow = x.desk.state.flow; cache = x.desk.state.cache; refused = x.desk.state.refused } ≡ x.desk.state
-  asked_state = ap (λ (r : Turn). record r { seats = x.desk.state.seats; flow = x.desk.state.flow; cache = x.desk.state.cache; refused = x.desk.state.refused }) is_filled.rest ∙ given_state
+  asked_state : record asked.state { seats = x.desk.state.seats; flow = x.desk.state.flow; cache = x.desk.state.cache; refused = x.desk.state.refused; is_astray = x.desk.state.is_astray } ≡ x.desk.state
+  asked_state = ap (λ (r : Turn). record r { seats = x.desk.state.seats; flow = x.desk.state.flow; cache = x.desk.state.cache; refused = x.desk.state.refused; is_astray = x.desk.state.is_astray }) is_filled.rest ∙ given_state
 
   numbers : numbers_of asked.state.seats.items ≡ numbers_of x.desk.state.seats.items
   numbers = fills.numbers ∙ gives.numbers ∙ drops.numbers

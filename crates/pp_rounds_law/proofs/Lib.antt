@@ -1,5 +1,6 @@
 pub mod Asked
 pub mod Asking
+pub mod Astray
 pub mod Begun
 pub mod Bounded
 pub mod Carried

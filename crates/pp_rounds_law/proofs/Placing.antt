@@ -1,5 +1,5 @@
 -- Exchanges get their places as by the law, and the law goes on to the decisions behind them.
-use Rattle.std.proofs.Common.{◌≡◌, ◌≤◌, ◌⊎◌, inl, inr, refl, sym, subst, ap, ◌∙◌, ℕ, Bool, true, false, ◌||◌, List, [], ◌∷◌, ◌++◌, append-nil, Some, None}
+use Rattle.std.proofs.Common.{◌≡◌, ◌≤◌, refl, sym, subst, ap, ◌∙◌, ℕ, Bool, true, false, ◌||◌, List, [], ◌∷◌, ◌++◌, append-nil, Some, None}
 use Rattle.std.specs.List.{list_any}
 use Rattle.std.specs.Prelude.{vec_capacity}
 use Rattle.pp_cache_law.proofs.Numbers.{is_same}
@@ -39,7 +39,7 @@ use Rattle.pp_rounds_law.proofs.Seated.{stays_seated}
 use Rattle.pp_rounds_law.proofs.Ready.{awake_on, ready_on, sourced}
 use Rattle.pp_rounds_law.specs.Coming.{Affords, ComesTo}
 use Rattle.pp_rounds_law.specs.Stands.{StandsAmid}
-use Rattle.pp_rounds_law.specs.Steps.{HavePlacesNow, PlacesInARound, PlacesRunOut}
+use Rattle.pp_rounds_law.specs.Steps.{HavePlacesNow, PlacesInARound}
 use Rattle.pp_rounds_law.specs.Supplies.{RoundSupplies}
 
 next_again : (s : State) → s.phase ≡ Connecting → next s ≡ (placing (in_phase DecidingAgain s)).state
@@ -92,10 +92,10 @@ module _ (terms : List Term) (before : Log) (number : ℕ → ℕ) (shelf : Kept
   may : MayPlace s
   may = record { connecting = record { at = at; none = amid.none }; going = amid.going; closed = closed; apart = λ n. sound.apart.conns n; given = given_conn s sound }
 
-  led : AreLed number p 65536 (around x.desk x.links x.top) log (around y.desk y.links y.top) s
+  led : AreLed number p log (around y.desk y.links y.top) s
   led = answers_all number p (around x.desk x.links x.top) s shows may 65536 log (around y.desk y.links y.top) (supplies.dials number x s holds shows may) places.is
 
-  state_is : record q { seats = p.seats; flow = p.flow; cache = p.cache; refused = p.refused } ≡ p
+  state_is : record q { seats = p.seats; flow = p.flow; cache = p.cache; refused = p.refused; is_astray = p.is_astray } ≡ p
   state_is = ap (λ (d : Desk). d.state) places.rest
 
   carried : Carries false (parts p) (parts q)
@@ -173,12 +173,8 @@ module _ (terms : List Term) (before : Log) (number : ℕ → ℕ) (shelf : Kept
       holds = supplies.placed number x y log s led.state holds amid places led.leads have.done amid_then sound_then;
     }
 
-  ends_by : HavePlaces number p (around y.desk y.links y.top) led.state ⊎ PlacesRunOut x log y → HavePlacesNow terms before number shelf I y log s ⊎ PlacesRunOut x log y
-  ends_by (inl have) = inl (have_places have)
-  ends_by (inr out) = inr out
-
-  pub places_end : HavePlacesNow terms before number shelf I y log s ⊎ PlacesRunOut x log y
-  places_end = ends_by led.ends
+  pub places_end : q.is_astray ≡ false → HavePlacesNow terms before number shelf I y log s
+  places_end well = have_places (led.ends well)
 
 pub places_led : PlacesInARound
-places_led terms before number shelf test x y log s supplies obeys amid holds affords at closed places = places_end terms before number shelf (Passes test) x y log s supplies obeys amid holds affords at closed places
+places_led terms before number shelf test x y log s supplies obeys amid holds affords at closed places well = places_end terms before number shelf (Passes test) x y log s supplies obeys amid holds affords at closed places well

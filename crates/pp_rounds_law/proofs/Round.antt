@@ -1,5 +1,5 @@
 -- One round, step by step.
-use Rattle.std.proofs.Common.{◌≡◌, ◌⊎◌, inl, inr, sym, subst, ap, ◌∙◌, Bool, false, ◌||◌, List, [], ◌++◌, append_assoc, ℕ, Option, None}
+use Rattle.std.proofs.Common.{◌≡◌, sym, subst, ap, ◌∙◌, Bool, false, ◌||◌, List, [], ◌++◌, append_assoc, ℕ, Option, None}
 use Rattle.std.specs.Prelude.{is_some}
 use Rattle.pp_deciding_law.specs.Stands.{IsDeciding}
 use Rattle.pp_desk.specs.declared.desk.Desk.{Desk}
@@ -16,16 +16,17 @@ use Rattle.pp_rounds_law.specs.Decisions.{Passes}
 use Rattle.pp_state.specs.declared.state.State.{State as Turn}
 use Rattle.pp_store.specs.Kept.{KeptMap}
 use Rattle.pp_world.specs.Log.{Log}
+use Rattle.pp_rounds_law.proofs.Astray.{all_stay, well_before}
 use Rattle.pp_rounds_law.proofs.Closing.{has_closed}
 use Rattle.pp_rounds_law.proofs.Coming.{affords_front, affords_then, comes_then}
 use Rattle.pp_rounds_law.proofs.Decided.{decides_round}
 use Rattle.pp_rounds_law.proofs.Following.{has_followed}
 use Rattle.pp_rounds_law.proofs.Placing.{places_end}
 use Rattle.pp_rounds_law.specs.Coming.{Affords, ComesTo}
-use Rattle.pp_rounds_law.specs.InRounds.{AreDecided, TakesSoMany, phase_behind}
-use Rattle.pp_rounds_law.specs.Rounds.{EndsRound, HasGoneRound, RoundsEnd, RoundsLead, RunsOut}
+use Rattle.pp_rounds_law.specs.InRounds.{AreDecided, phase_behind}
+use Rattle.pp_rounds_law.specs.Rounds.{EndsRound, RoundsEnd, RoundsLead}
 use Rattle.pp_rounds_law.specs.Stands.{StandsInRound}
-use Rattle.pp_rounds_law.specs.Steps.{HasClosed, HasFollowed, HavePlacesNow, PlacesRunOut}
+use Rattle.pp_rounds_law.specs.Steps.{HasClosed, HasFollowed, HavePlacesNow}
 use Rattle.pp_rounds_law.specs.Supplies.{RoundSupplies, followed}
 
 -- ---- nobody is turned away
@@ -50,7 +51,7 @@ turned_none shelf x log y any away all =
 -- ---- all of it
 
 module _ (terms : List Term) (before : Log) (shelf : KeptMap) (I : Turn → State → Type 0) (x y : Moving) (log : Log) (any : Bool) (s : State) (supplies : RoundSupplies shelf I) (obeys : Obeys terms s before) (affords : Affords s log) (stands : StandsInRound shelf x s) (holds : I x.desk.state s)
-    (at : s.phase ≡ Deciding) (none : first_due s ≡ None) (round : GoesRound shelf x log y any) where
+    (at : s.phase ≡ Deciding) (none : first_due s ≡ None) (round : GoesRound shelf x log y any) (well : y.desk.state.is_astray ≡ false) where
   abbrev number : ℕ → ℕ
   number = stands.number
 
@@ -78,50 +79,42 @@ module _ (terms : List Term) (before : Log) (shelf : KeptMap) (I : Turn → Stat
   deciding_at : (t : State) → t.phase ≡ DecidingAgain → t.made_room_for ≡ None → IsDeciding t
   deciding_at t is room = record { at = ap (λ (f : Phase). is_same_phase Deciding f || is_same_phase DecidingAgain f) is; none = room }
 
-  module _ (have : HavePlacesNow terms behind_closings number shelf I round.placed round.placing closed.then) where
-    stands_again : StandsInRound shelf round.placed have.then
-    stands_again = record {
-      number = number;
-      amid = have.amid;
-      deciding = deciding_at have.then have.phase have.amid.none;
-      disk = supplies.keeps round.placed.desk.state have.then have.holds;
-    }
+  -- places left this life as it was, since decisions do not bring it back
+  placed_well : round.placed.desk.state.is_astray ≡ false
+  placed_well = well_before round.placed.desk.state.is_astray y.desk.state.is_astray (all_stay shelf round.placed y round.deciding any round.decides) well
 
-    decided : AreDecided terms (behind_closings ++ round.placing) shelf I 65536 round.placed y round.deciding any have.then
-    decided =
-        decides_round terms shelf I supplies 65536 (behind_closings ++ round.placing) round.placed y round.deciding any have.then have.comes.obeys stands_again have.holds
-        (turned_none shelf round.placed round.deciding y any have.amid.away round.decides).decides
+  have : HavePlacesNow terms behind_closings number shelf I round.placed round.placing closed.then
+  have =
+      places_end terms behind_closings number shelf I round.closed round.placed round.placing closed.then supplies closed.comes.obeys closed.amid closed.holds afford_places closed.phase closed.closed round.places placed_well
 
-    comes : ComesTo terms before log s decided.then
-    comes =
-        subst (λ (hs : Log). ComesTo terms before hs s decided.then) (sym log_is)
-        (comes_then terms before [] (round.closing ++ (round.placing ++ round.deciding)) s (followed s) decided.then silent.comes
-        (comes_then terms (before ++ []) round.closing (round.placing ++ round.deciding) (followed s) closed.then decided.then closed.comes
-        (comes_then terms behind_closings round.placing round.deciding closed.then have.then decided.then have.comes decided.comes)))
+  stands_again : StandsInRound shelf round.placed have.then
+  stands_again = record {
+    number = number;
+    amid = have.amid;
+    deciding = deciding_at have.then have.phase have.amid.none;
+    disk = supplies.keeps round.placed.desk.state have.then have.holds;
+  }
 
-    ends_by : (first_due decided.then ≡ None) ⊎ TakesSoMany 65536 shelf round.placed round.deciding y → EndsRound terms before shelf I y log any s ⊎ RunsOut shelf x log y any
-    ends_by (inl nothing) = inl (record {
-      gone = record { then = decided.then; comes = comes; stands = decided.stands; holds = decided.holds; phase = decided.phase ∙ ap (λ (p : Phase). phase_behind any p) have.phase; none = nothing };
-      closed = λ none_more. subst (λ (t : State). has_closings t ≡ false) (sym (decided.unless none_more)) have.closed;
-    })
-    ends_by (inr out) = inr (record { round = round; out = inr out })
+  decided : AreDecided terms (behind_closings ++ round.placing) shelf I y round.deciding any have.then
+  decided =
+      decides_round terms shelf I supplies 65536 (behind_closings ++ round.placing) round.placed y round.deciding any have.then have.comes.obeys stands_again have.holds
+      (turned_none shelf round.placed round.deciding y any have.amid.away round.decides).decides well
 
-  by_places : HavePlacesNow terms behind_closings number shelf I round.placed round.placing closed.then ⊎ PlacesRunOut round.closed round.placing round.placed → EndsRound terms before shelf I y log any s ⊎ RunsOut shelf x log y any
-  by_places (inl have) = ends_by have (decided have).ends
-  by_places (inr out) = inr (record { round = round; out = inl out })
+  comes : ComesTo terms before log s decided.then
+  comes =
+      subst (λ (hs : Log). ComesTo terms before hs s decided.then) (sym log_is)
+      (comes_then terms before [] (round.closing ++ (round.placing ++ round.deciding)) s (followed s) decided.then silent.comes
+      (comes_then terms (before ++ []) round.closing (round.placing ++ round.deciding) (followed s) closed.then decided.then closed.comes
+      (comes_then terms behind_closings round.placing round.deciding closed.then have.then decided.then have.comes decided.comes)))
 
-  pub goes_round : EndsRound terms before shelf I y log any s ⊎ RunsOut shelf x log y any
-  goes_round =
-      by_places
-      (places_end terms behind_closings number shelf I round.closed round.placed round.placing closed.then supplies closed.comes.obeys closed.amid closed.holds afford_places closed.phase closed.closed round.places)
+  pub goes_round : EndsRound terms before shelf I y log any s
+  goes_round = record {
+    gone = record { then = decided.then; comes = comes; stands = decided.stands; holds = decided.holds; phase = decided.phase ∙ ap (λ (p : Phase). phase_behind any p) have.phase; none = decided.none };
+    closed = λ none_more. subst (λ (t : State). has_closings t ≡ false) (sym (decided.unless none_more)) have.closed;
+  }
 
 pub rounds_end : RoundsEnd
-rounds_end terms before shelf test x y log any s supplies obeys affords stands holds at none round = goes_round terms before shelf (Passes test) x y log any s supplies obeys affords stands holds at none round
-
-led_by : (terms : List Term) (before : Log) (shelf : KeptMap) (I : Turn → State → Type 0) (x y : Moving) (log : Log) (any : Bool) (s : State) → EndsRound terms before shelf I y log any s ⊎ RunsOut shelf x log y any → HasGoneRound terms before shelf I y log any s ⊎ RunsOut shelf x log y any
-led_by terms before shelf I x y log any s (inl ends) = inl ends.gone
-led_by terms before shelf I x y log any s (inr out) = inr out
+rounds_end terms before shelf test x y log any s supplies obeys affords stands holds at none round well = goes_round terms before shelf (Passes test) x y log any s supplies obeys affords stands holds at none round well
 
 pub rounds : RoundsLead
-rounds terms before shelf test x y log any s supplies obeys affords stands holds at none round =
-    led_by terms before shelf (Passes test) x y log any s (goes_round terms before shelf (Passes test) x y log any s supplies obeys affords stands holds at none round)
+rounds terms before shelf test x y log any s supplies obeys affords stands holds at none round well = (rounds_end terms before shelf test x y log any s supplies obeys affords stands holds at none round well).gone

@@ -21,6 +21,8 @@ use Rattle.pp_peers.specs.declared.peers.Peer.{Peer}
 use Rattle.pp_peers.specs.declared.placing.Limits.{Limits}
 use Rattle.pp_peers.specs.declared.placing.Placed.{Placed}
 use Rattle.pp_peers.specs.declared.placing.Placed.TheVariants.{On, Dial, CloseThenDial, Wait}
+use Rattle.pp_desk.specs.Closings.{with_parts}
+use Rattle.pp_state.specs.Astray.{astray_where}
 use Rattle.pp_places.specs.Around.{Around, Moment, with_sides}
 use Rattle.pp_places.specs.Placing.{ArePlaced, IsDialledFor, IsDialledTo, IsPlaced, IsPlacedAs, dials_to, given_way, goes_alone, goes_on_behind, host_of, met_at, new_one, next_waiting, place_at, place_for, place_of, put_on, put_text, put_text_where, text_on}
 use Rattle.pp_places_law.proofs.Links.{linked_more, linked_without, numbers_more, numbers_piped}
@@ -251,7 +253,11 @@ one_more more ns m onward x y log None stays is = stays_same ns x y stays is.1
 one_more more ns m onward x y log (Some number) stays (next, first, rest, is, placed, others) =
     onward (goes_on_behind (place_for m.limits number x.sides) number) next y rest (placed_as ns (place_for m.limits number x.sides) m number x next first refl stays placed) others
 
+stays_astray : (b : Bool) (ns : List ℕ) (x : Around) → Stays ns x → Stays ns (with_sides (with_parts (astray_where b)) x)
+stays_astray false ns x stays = stays
+stays_astray true ns x stays = record { seated = stays.seated; linked = stays.linked; given = stays.given; once = stays.once }
+
 pub stays_seated : (more : ℕ) (ns : List ℕ) (m : Moment) → Onward more ns m
 unfolding ArePlaced
-stays_seated zero ns m after x y log stays is = stays_same ns x y stays is.1
+stays_seated zero ns m after x y log stays is = subst (λ (z : Around). Stays ns z) (sym is.1) (stays_astray (is_some (next_waiting after x.sides)) ns x stays)
 stays_seated (suc more) ns m after x y log stays is = one_more more ns m (stays_seated more ns m) x y log (next_waiting after x.sides) stays is

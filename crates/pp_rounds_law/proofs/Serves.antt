@@ -29,8 +29,8 @@ use Rattle.pp_state.specs.declared.state.State.{State as Turn}
 use Rattle.pp_store.specs.Kept.{KeptMap}
 use Rattle.pp_world.specs.Log.{Log}
 use Rattle.pp_rounds_law.proofs.Loops.{loops}
-use Rattle.pp_rounds_law.specs.Loops.{MayGoRound, RoundsRunOut}
-use Rattle.pp_rounds_law.specs.Serves.{EndSupplies, HasServed, ServesLead, ServesNoMore, StaysSet}
+use Rattle.pp_rounds_law.specs.Loops.{MayGoRound, RoundsGoAstray}
+use Rattle.pp_rounds_law.specs.Serves.{EndSupplies, HasServed, ServesAstray, ServesLead, StaysSet}
 
 module _ (terms : List Term) (before : Log) (shelf : KeptMap) (test : Turn → State → Bool) (x y : Moving) (log : Log) (s : State) (supplies : EndSupplies shelf (Passes test)) (may : MayGoRound terms before shelf (Passes test) x log s) (serves : Serves shelf x log y) (bounded : IsBounded y.desk.state.cache)
     (round : EndsRound terms before shelf (Passes test) serves.between log false s) where
@@ -85,6 +85,6 @@ module _ (terms : List Term) (before : Log) (shelf : KeptMap) (test : Turn → S
 pub serves : ServesLead
 serves terms before shelf test x y log s supplies ends_too may served_so bounded = by (loops terms before shelf test 65536 x served_so.between log s supplies may served_so.rounds)
   where
-    by : EndsRound terms before shelf (Passes test) served_so.between log false s ⊎ RoundsRunOut 65536 shelf x log served_so.between → HasServed terms before shelf y log s ⊎ ServesNoMore shelf x log
+    by : EndsRound terms before shelf (Passes test) served_so.between log false s ⊎ RoundsGoAstray 65536 shelf x log served_so.between → HasServed terms before shelf y log s ⊎ ServesAstray shelf x log
     by (inl gone) = inl (served terms before shelf test x y log s ends_too may served_so bounded gone)
     by (inr out) = inr (record { between = served_so.between; out = out })

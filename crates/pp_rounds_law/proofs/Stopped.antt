@@ -1,5 +1,5 @@
 -- At Stop a turn decides, and closes all.
-use Rattle.std.proofs.Common.{◌≡◌, ◌⊎◌, inl, inr, refl, sym, subst, ap, ◌∙◌, ℕ, zero, suc, Bool, true, false, length, List, [], ◌∷◌, ◌++◌, append-nil, Option, Some, None}
+use Rattle.std.proofs.Common.{◌≡◌, refl, sym, subst, ap, ◌∙◌, ℕ, zero, suc, Bool, true, false, length, List, [], ◌∷◌, ◌++◌, Option, Some, None}
 use Rattle.pp_closings_law.specs.Log.{AreLinked}
 use Rattle.pp_deciding_law.proofs.Found.{first_keeps, none_next}
 use Rattle.pp_deciding_law.specs.Stands.{NoneIsNext, StandsBehind}
@@ -16,11 +16,12 @@ use Rattle.pp_proxy.specs.Closing.{ClosesOver}
 use Rattle.pp_proxy.specs.Deciding.{Decides, TakesOne}
 use Rattle.pp_proxy.specs.Moving.{Moving, with_state}
 use Rattle.pp_proxy.specs.Settling.{GoesOn, Settles}
+use Rattle.pp_desk.specs.declared.desk.Desk.{Desk}
+use Rattle.pp_rounds_law.proofs.Astray.{first_given, found_given, stays_stopped}
 use Rattle.pp_rounds_law.proofs.Coming.{affords_front, affords_then, comes_by, comes_silently, comes_then, enough_of, none_fail}
 use Rattle.pp_rounds_law.proofs.Went.{Went, went_found, went_one, went_then}
 use Rattle.pp_rounds_law.specs.Coming.{Affords, ComesTo}
-use Rattle.pp_rounds_law.specs.InRounds.{TakesSoMany}
-use Rattle.pp_rounds_law.proofs.Decisions.{decides_on}
+use Rattle.pp_rounds_law.proofs.Decisions.{decides_one}
 use Rattle.pp_rounds_law.specs.Decisions.{AllDecided, Passes}
 use Rattle.pp_seats.specs.declared.due.Due.{Due}
 use Rattle.pp_seats.specs.declared.seat.Seat.{Seat}
@@ -33,7 +34,7 @@ use Rattle.pp_store.specs.Kept.{KeptMap}
 use Rattle.pp_turns_law.specs.Firsts.{FirstDueInMemory}
 use Rattle.pp_world.specs.Log.{Log}
 use Rattle.pp_rounds_law.proofs.Unturned.{DecidesAlone, alone}
-use Rattle.pp_rounds_law.specs.Settles.{HasStopped, StandsAtStop, StopSupplies, StopsLead, StopsNoMore}
+use Rattle.pp_rounds_law.specs.Settles.{HasStopped, StandsAtStop, StopSupplies, StopsLead}
 
 -- ---- what stands there, behind each
 
@@ -65,88 +66,82 @@ Then more shelf x found log y any due = elim due [
 ]
 
 module _ (terms : List Term) (shelf : KeptMap) (I : Turn → State → Type 0) (supplies : StopSupplies shelf I) where
-  record AreDecided (more : ℕ) (before : Log) (x y : Moving) (log : Log) (s : State) : Type 0 where
+  record AreDecided (before : Log) (y : Moving) (log : Log) (s : State) : Type 0 where
     then : State
     comes : ComesTo terms before log s then
     stands : StandsAtStop shelf y then
     holds : I y.desk.state then
-    ends : (first_due then ≡ None) ⊎ TakesSoMany more shelf x log y
+    none : first_due then ≡ None
 
-  nothing : (more : ℕ) (before : Log) (x y z : Moving) (log : Log) (s : State) → Obeys terms s before → StandsAtStop shelf z s → I z.desk.state s → y ≡ z → log ≡ [] → (first_due s ≡ None) ⊎ TakesSoMany more shelf x log y → AreDecided more before x y log s
-  nothing more before x y z log s obeys stands holds same none ends = record {
+  nothing : (before : Log) (y z : Moving) (log : Log) (s : State) → Obeys terms s before → StandsAtStop shelf z s → I z.desk.state s → y ≡ z → log ≡ [] → first_due s ≡ None → AreDecided before y log s
+  nothing before y z log s obeys stands holds same none nothing_due = record {
     then = s;
     comes = subst (λ (hs : Log). ComesTo terms before hs s s) (sym none) (comes_by terms [] before s s (none_fail s 0 refl) obeys refl);
     stands = subst (λ (w : Moving). StandsAtStop shelf w s) (sym same) stands;
     holds = subst (λ (w : Moving). I w.desk.state s) (sym same) holds;
-    ends = ends;
+    none = nothing_due;
   }
 
-  one_by : (before : Log) (x : Moving) (s : State) (found : Turn) (d : ℕ × Due) (next : Moving) (first : Log) → Obeys terms s before → StandsAtStop shelf x s → I x.desk.state s → FirstDue shelf x.desk.state.awake.items x.desk.state found (Some d)
-      → TakesOne d.0 d.1 (with_state found x) first next → AllDecided shelf I next first s
-  unfolding Decides
-  one_by before x s found d next first obeys stands holds looked takes =
-      decides_on terms shelf I (suc zero) next supplies.decides before x first true s obeys stands.behind holds (found, Some d, looked, (next, first, [], false, sym (append-nil first), takes, (refl, refl, refl), refl))
-
-  more_of : (more : ℕ) (x y : Moving) (log : Log) (found : Turn) (d : ℕ × Due) (next : Moving) (first rest : Log) (t : State) → FirstDue shelf x.desk.state.awake.items x.desk.state found (Some d) → log ≡ first ++ rest → TakesOne d.0 d.1 (with_state found x) first next
-      → (first_due t ≡ None) ⊎ TakesSoMany more shelf next rest y → (first_due t ≡ None) ⊎ TakesSoMany (suc more) shelf x log y
-  unfolding TakesSoMany
-  more_of more x y log found d next first rest t looked is takes (inl none) = inl none
-  more_of more x y log found d next first rest t looked is takes (inr so) = inr (found, d.0, d.1, next, first, rest, looked, is, takes, so)
-
   abbrev Onward : ℕ → Type 0
-  Onward more = (before : Log) (x y : Moving) (log : Log) (any : Bool) (s : State) → Obeys terms s before → Affords s log → StandsAtStop shelf x s → I x.desk.state s → Decides more shelf x log y any → AreDecided more before x y log s
+  Onward more = (before : Log) (x y : Moving) (log : Log) (any : Bool) (s : State) → Obeys terms s before → Affords s log → StandsAtStop shelf x s → I x.desk.state s → Decides more shelf x log y any → y.desk.state.is_astray ≡ false → AreDecided before y log s
 
   step : (more : ℕ) → Onward more → (before : Log) (x y : Moving) (log : Log) (any : Bool) (s : State) → Obeys terms s before → Affords s log → StandsAtStop shelf x s → I x.desk.state s → (found : Turn) (due : Option (ℕ × Due)) → FirstDue shelf x.desk.state.awake.items x.desk.state found due
-      → Then more shelf x found log y any due → AreDecided (suc more) before x y log s
-  step more onward before x y log any s obeys affords stands holds found None looked here =
-      let given : FirstDueInMemory shelf x.desk.state.awake.items x.desk.state found None = supplies.decides.given x.desk.state found s None holds looked in
+      → Then more shelf x found log y any due → y.desk.state.is_astray ≡ false → AreDecided before y log s
+  step more onward before x y log any s obeys affords stands holds found None looked here well =
+      let given : FirstDueInMemory shelf x.desk.state.awake.items x.desk.state found None = first_given shelf x.desk.state.awake.items x.desk.state found None looked (sym (ap (λ (z : Moving). z.desk.state.is_astray) here.1) ∙ well) in
       let none : NoneIsNext x.desk.peers shelf found s = none_next stands.behind.number x.desk.peers shelf x.desk.state found s stands.behind.stands (sound_turns terms s before obeys) given in
-      nothing (suc more) before x y (with_state found x) log s obeys (stands_on shelf x (with_state found x) s s stands (went_found x found (first_keeps shelf x.desk.state.awake.items x.desk.state found None given)) none.behind)
-      (supplies.decides.none x.desk.state found s holds given) here.1 here.0 (inl none.none)
-  step more onward before x y log any s obeys affords stands holds found (Some d) looked (next, first, rest, later, is, takes, decides, any_is) =
-      let given : FirstDueInMemory shelf x.desk.state.awake.items x.desk.state found (Some d) = supplies.decides.given x.desk.state found s (Some d) holds looked in
-      let one : AllDecided shelf I next first s = one_by before x s found d next first obeys stands holds looked takes in
+      nothing before y (with_state found x) log s obeys (stands_on shelf x (with_state found x) s s stands (went_found x found (first_keeps shelf x.desk.state.awake.items x.desk.state found None given)) none.behind)
+      (supplies.decides.none x.desk.state found s holds given) here.1 here.0 none.none
+  step more onward before x y log any s obeys affords stands holds found (Some d) looked (next, first, rest, later, is, takes, decides, any_is) well =
+      let given : FirstDueInMemory shelf x.desk.state.awake.items x.desk.state found (Some d) = found_given more shelf x next y first rest later found d looked takes decides well in
+      let one : AllDecided shelf I next first s = decides_one terms shelf I supplies.decides before x s obeys stands.behind holds found d next first given takes in
       let both : Affords s (first ++ rest) = subst (λ (hs : Log). Affords s hs) is affords in
       let came : ComesTo terms before first s one.then = comes_by terms first before s one.then (enough_of s first (affords_front s first rest both)) obeys one.leads in
       let went : Went x next = went_then x (with_state found x) next (went_found x found (first_keeps shelf x.desk.state.awake.items x.desk.state found (Some d) given)) (went_one d.0 d.1 (with_state found x) first next takes) in
-      let last : AreDecided more (before ++ first) next y rest one.then =
-      onward (before ++ first) next y rest later one.then came.obeys (affords_then terms before first rest s one.then came both) (stands_on shelf x next s one.then stands went one.stands) one.holds decides in
+      let last : AreDecided (before ++ first) y rest one.then =
+      onward (before ++ first) next y rest later one.then came.obeys (affords_then terms before first rest s one.then came both) (stands_on shelf x next s one.then stands went one.stands) one.holds decides well in
       record {
         then = last.then;
         comes = subst (λ (hs : Log). ComesTo terms before hs s last.then) (sym is) (comes_then terms before first rest s one.then last.then came last.comes);
         stands = last.stands;
         holds = last.holds;
-        ends = more_of more x y log found d next first rest last.then looked is takes last.ends;
+        none = last.none;
       }
 
   decides_all : (more : ℕ) → Onward more
-  unfolding Decides TakesSoMany
-  decides_all zero before x y log any s obeys affords stands holds it = nothing zero before x y x log s obeys stands holds it.1 it.0 (inr (it.0, it.1))
-  decides_all (suc more) before x y log any s obeys affords stands holds (found, due, first, rest) = step more (decides_all more) before x y log any s obeys affords stands holds found due first rest
+  unfolding Decides
+  decides_all zero before x y log any s obeys affords stands holds it well = absurd (let both : true ≡ false = sym (ap (λ (z : Moving). z.desk.state.is_astray) it.1) ∙ well in cc both)
+  decides_all (suc more) before x y log any s obeys affords stands holds (found, due, first, rest) well = step more (decides_all more) before x y log any s obeys affords stands holds found due first rest well
 
   -- ---- and all are closed
 
-  module _ (before : Log) (x y : Moving) (log : Log) (s : State) (obeys : Obeys terms s before) (afford : Affords s log) (stands : StandsAtStop shelf x s) (holds : I x.desk.state s) (settles : Settles shelf x log y) where
+  module _ (before : Log) (x y : Moving) (log : Log) (s : State) (obeys : Obeys terms s before) (afford : Affords s log) (stands : StandsAtStop shelf x s) (holds : I x.desk.state s) (settles : Settles shelf x log y) (well : y.desk.state.is_astray ≡ false) where
     decides : DecidesAlone shelf x settles.first settles.between
     decides = alone shelf x settles.between settles.first settles.any stands.away settles.decides
 
     affords : Affords s (settles.first ++ settles.rest)
     affords = subst (λ (hs : Log). Affords s hs) settles.log_is afford
 
-    decided : AreDecided 65536 before x settles.between settles.first s
-    decided = decides_all 65536 before x settles.between settles.first decides.any s obeys (affords_front s settles.first settles.rest affords) stands holds decides.decides
+    -- Stop was said before the decisions
+    stopped_still : settles.between.desk.state.is_stopped ≡ true
+    stopped_still = stays_stopped 65536 shelf x settles.between settles.first decides.any decides.decides stands.stopped
 
     closes : ClosesOver settles.between settles.rest y
-    closes = subst (λ (b : Bool). GoesOn b shelf settles.between settles.rest y) decided.stands.stopped settles.goes
+    closes = subst (λ (b : Bool). GoesOn b shelf settles.between settles.rest y) stopped_still settles.goes
+
+    decided : AreDecided before settles.between settles.first s
+    decided =
+        decides_all 65536 before x settles.between settles.first decides.any s obeys (affords_front s settles.first settles.rest affords) stands holds decides.decides
+        (sym (ap (λ (d : Desk). d.state.is_astray) closes.rest) ∙ well)
 
     affords_rest : Affords decided.then settles.rest
     affords_rest = affords_then terms before settles.first settles.rest s decided.then decided.comes affords
 
-    may_stop : first_due decided.then ≡ None → MayStop settles.between decided.then
-    may_stop none = record {
+    may_stop : MayStop settles.between decided.then
+    may_stop = record {
       at = supplies.at settles.between.desk.state decided.then decided.holds;
       none = decided.stands.behind.stands.deciding.none;
-      done = none;
+      done = decided.none;
       stopped = decided.stands.stopped;
       awake = decided.stands.awake;
       clients = decided.stands.clients;
@@ -167,8 +162,8 @@ module _ (terms : List Term) (shelf : KeptMap) (I : Turn → State → Type 0) (
         comes_by terms settles.rest (hs ++ []) (behind u) shut.then (enough_of (behind u) settles.rest (affords_then terms hs [] settles.rest t (behind u) both affords_rest)) both.obeys shut.leads.holds.holds in
         comes_then terms hs [] settles.rest t (behind u) shut.then both three
 
-    stopped_so : HasStopped terms before y log s ⊎ StopsNoMore shelf x log
-    stopped_so = by decided.ends
+    stopped_so : HasStopped terms before y log s
+    stopped_so = at_end (stops terms decided.stands.behind.number (before ++ settles.first) settles.rest settles.between y decided.then decided.comes.obeys decided.stands.behind.stands.turn may_stop closes)
       where
         at_end : AllAreShut terms (before ++ settles.first) settles.rest decided.then × NobodyIsLeft y → HasStopped terms before y log s
         at_end both = record {
@@ -180,12 +175,5 @@ module _ (terms : List Term) (shelf : KeptMap) (I : Turn → State → Type 0) (
           nobody = both.1;
         }
 
-        by : (first_due decided.then ≡ None) ⊎ TakesSoMany 65536 shelf x settles.first settles.between → HasStopped terms before y log s ⊎ StopsNoMore shelf x log
-        by (inr out) = inr (record { between = settles.between; first = settles.first; rest = settles.rest; log_is = settles.log_is; out = out })
-        by (inl none) =
-            inl
-            (at_end
-            (stops terms decided.stands.behind.number (before ++ settles.first) settles.rest settles.between y decided.then decided.comes.obeys decided.stands.behind.stands.turn (may_stop none) closes))
-
 pub stopped : StopsLead
-stopped terms before shelf test x y log s supplies obeys affords stands holds settles = stopped_so terms shelf (Passes test) supplies before x y log s obeys affords stands holds settles
+stopped terms before shelf test x y log s supplies obeys affords stands holds settles well = stopped_so terms shelf (Passes test) supplies before x y log s obeys affords stands holds settles well

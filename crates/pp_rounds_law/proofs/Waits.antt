@@ -1,4 +1,4 @@
--- Where a dial is waited for, its exchange is there and has no place, its client goes on, and clients are as they were where places began.
+-- Where a dial is waited for, its exchange is there and has no place, and its client goes on.
 use Rattle.std.proofs.Common.{◌≡◌, refl, sym, subst, ap, ◌∙◌, ℕ, zero, suc, Bool, true, false, ◌||◌, cond, find, List, [], ◌∷◌, ◌++◌, map, Option, Some, None, option_and_then}
 use Rattle.std.specs.List.{list_any}
 use Rattle.pp_cache_law.proofs.Finds.{find_passes}
@@ -7,13 +7,8 @@ use Rattle.pp_law.specs.Connections.{WaitsDial, exchange, if_unplaced, is_client
 use Rattle.pp_law.specs.State.{State, Client, Exchange}
 use Rattle.pp_peers.specs.declared.placing.Placed.{Placed}
 use Rattle.pp_peers.specs.declared.placing.Placed.TheVariants.{On, Dial, CloseThenDial, Wait}
-use Rattle.pp_places.specs.Around.{Around, Moment}
-use Rattle.pp_places.specs.Placing.{ArePlaced, IsPlaced, goes_on_behind, next_waiting, place_for as place_in_turn}
 use Rattle.pp_places_law.proofs.Walks.{by_one, by_place}
-use Rattle.pp_places_law.specs.Places.{IsUnplaced, Reaches}
-use Rattle.pp_rounds_law.proofs.Carried.{Carries}
-use Rattle.pp_rounds_law.proofs.Places.{carries_places}
-use Rattle.pp_world.specs.Log.{Log}
+use Rattle.pp_places_law.specs.Places.{IsUnplaced}
 
 -- ---- its exchange
 
@@ -64,30 +59,3 @@ goes_on n (d ∷ cs) c none is = by (is_client n d) (both d.is_closing none) (λ
     by : (b : Bool) → (d.is_closing ≡ false) × (list_any (λ (x : Client). x.is_closing) cs ≡ false) → (list_any (λ (x : Client). x.is_closing) cs ≡ false → find (is_client n) cs ≡ Some c → c.is_closing ≡ false) → cond b (Some d) (find (is_client n) cs) ≡ Some c → c.is_closing ≡ false
     by true so again found = subst (λ (x : Client). x.is_closing ≡ false) (some_is d c found) so.0
     by false so again found = again so.1 found
-
--- ---- clients
-
-abbrev Steps : ℕ → Moment → Around → Log → Around → Option ℕ → Type 0
-Steps more m x log y o = elim o [
-  | None ↦ (log ≡ []) × (y ≡ x)
-  | Some number ↦ (next : Around) × (first : Log) × (rest : Log) × (log ≡ first ++ rest) × IsPlaced m number x first next × ArePlaced more m (goes_on_behind (place_in_turn m.limits number x.sides) number) next rest y
-]
-
-abbrev Reached : ℕ → Moment → Option ℕ → Around → Log → Around → Type 0
-Reached more m after x log y =
-    (number : ℕ) × (next : Around) × (first : Log) × (rest : Log) × (next_waiting after x.sides ≡ Some number) × (log ≡ first ++ rest) × IsPlaced m number x first next × Reaches more m (goes_on_behind (place_in_turn m.limits number x.sides) number) next rest y
-
-abbrev Onward : ℕ → Moment → Type 0
-Onward more m = (after : Option ℕ) (x y : Around) (log : Log) → Reaches more m after x log y → ArePlaced more m after x log y
-
-one_placed : (more : ℕ) (m : Moment) → Onward more m → (after : Option ℕ) (x y : Around) (log : Log) → Reached more m after x log y → Steps more m x log y (next_waiting after x.sides)
-one_placed more m onward after x y log (number, next, first, rest, waiting, is, placed, others) =
-    subst (λ (o : Option ℕ). Steps more m x log y o) (sym waiting) (next, first, rest, is, placed, onward (goes_on_behind (place_in_turn m.limits number x.sides) number) next y rest others)
-
-are_placed : (more : ℕ) (m : Moment) → Onward more m
-unfolding Reaches ArePlaced
-are_placed zero m after x y log is = is
-are_placed (suc more) m after x y log is = one_placed more m (are_placed more m) after x y log is
-
-pub carries_reached : (steps : ℕ) (m : Moment) (x y : Around) (log : Log) → Reaches steps m None x log y → Carries false x.sides.parts y.sides.parts
-carries_reached steps m x y log reaches = carries_places steps m None x y log (are_placed steps m None x y log reaches)

@@ -1,17 +1,15 @@
 -- All that is decided in one go, one behind the other, leads where the law leads (RFC 2616, section 8.1; the order is ours).
-use Rattle.std.specs.Prelude.{◌≡◌, ℕ, Bool, true, List, Option, None}
+use Rattle.std.specs.Prelude.{◌≡◌, ℕ, Bool, true, false, List, None}
 use Rattle.pp_cache.specs.Bounds.{IsBounded}
 use Rattle.pp_closings_law.specs.Sides.{MayClose}
 use Rattle.pp_deciding_law.specs.Cuts.{IsCutNext, behind_cut}
 use Rattle.pp_deciding_law.specs.Stands.{StandsBehind}
 use Rattle.pp_deciding_law.specs.Takes.{IsNext, RestsOn, behind_taken}
-use Rattle.pp_due.specs.Entering.{FirstDue}
 use Rattle.pp_law.specs.State.{State, Client, Term}
 use Rattle.pp_obeys.specs.Moves.{Leads}
 use Rattle.pp_obeys.specs.Obeys.{Obeys}
 use Rattle.pp_proxy.specs.Deciding.{Decides, TakesOne}
 use Rattle.pp_proxy.specs.Moving.{Moving}
-use Rattle.pp_seats.specs.declared.due.Due.{Due as SeatDue}
 use Rattle.pp_seats.specs.declared.due.Due.TheVariants.{Decide, CutOff}
 use Rattle.pp_seats.specs.declared.seat.Seat.{Seat}
 use Rattle.pp_state.specs.declared.state.State.{State as Turn}
@@ -24,8 +22,6 @@ use Rattle.pp_world.specs.declared.note.Decision.{Decision}
 -- ---- what each decision rests on beside what stands: whatever holds from one to the next, and supplies it
 
 pub record Supplies (shelf : KeptMap) (I : Turn → State → Type 0) : Type 0 where
-  -- memory is refused for no row: no source yet
-  pub given : (p q : Turn) (s : State) (found : Option (ℕ × SeatDue)) → I p s → FirstDue shelf p.awake.items p q found → FirstDueInMemory shelf p.awake.items p q found
   -- as RestsOn and MayClose have it
   pub rests : (i : ℕ) (due : Decision) (p q : Turn) (s : State) (seat : Seat) (c : Client) → I p s → IsNext shelf i due p q s seat c → RestsOn i due p q s seat c
   pub closes : (p : Turn) (s : State) → I p s → MayClose s
@@ -46,6 +42,8 @@ pub record AllDecided (shelf : KeptMap) (I : Turn → State → Type 0) (y : Mov
 abbrev pub Passes : (Turn → State → Bool) → Turn → State → Type 0
 Passes test p s = test p s ≡ true
 
+-- this life did not go astray: the turn's end says so, and what went astray stays so (`Astray`). So memory was refused for no row, and no more
+-- is due than is taken
 abbrev pub AllLead : Type 0
 AllLead = (terms : List Term) (before : Log) (shelf : KeptMap) (test : Turn → State → Bool) (more : ℕ) (x y : Moving) (log : Log) (any : Bool) (s : State) → Supplies shelf (Passes test) → Obeys terms s before → StandsBehind x.desk.peers shelf x.desk.state s → Passes test x.desk.state s
-    → Decides more shelf x log y any → AllDecided shelf (Passes test) y log s
+    → Decides more shelf x log y any → y.desk.state.is_astray ≡ false → AllDecided shelf (Passes test) y log s

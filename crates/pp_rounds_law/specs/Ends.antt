@@ -4,7 +4,7 @@ use Rattle.std.specs.Prelude.{◌≡◌, ◌≤◌, ◌&&◌, ℕ, true, false, 
 use Rattle.std.specs.List.{list_any}
 use Rattle.pp_cache.specs.Bounds.{IsBounded}
 use Rattle.pp_decides_law.specs.Begins.{MayShow, is_kept_by}
-use Rattle.pp_deciding_law.specs.Stands.{AreKept, StandsToDecide}
+use Rattle.pp_deciding_law.specs.Stands.{StandsToDecide}
 use Rattle.pp_desk.specs.declared.desk.Desk.{Desk}
 use Rattle.pp_flow_law.specs.Tables.{none_leaves}
 use Rattle.pp_law.specs.Closing.{is_of}
@@ -24,7 +24,7 @@ use Rattle.pp_seats.specs.declared.seat.Seat.{Seat}
 use Rattle.pp_seats.specs.declared.seat.Stage.TheVariants.{Answering as IsAnswering}
 use Rattle.pp_store.specs.Kept.{KeptMap}
 use Rattle.pp_turns_law.specs.Firsts.{AreAwake}
-use Rattle.pp_turns_law.specs.Rows.{AreReady}
+use Rattle.pp_turns_law.specs.Rows.{AllAreKept, AreReady}
 use Rattle.pp_turns_law.specs.Turns.{ShowsTurn}
 use Rattle.pp_world.specs.Log.{Log}
 
@@ -70,7 +70,7 @@ pub record HasEnded (number : ℕ → ℕ) (shelf : KeptMap) (q : Desk) (s : Sta
   pub may : may_end s ≡ true
   pub turn : ShowsTurn number none_leaves q.peers q.state (ending s)
   pub ready : AreReady number q.state.cache (ending s).next_instance q.state.seats.items
-  pub disk : AreKept shelf q.state.cache (ending s)
+  pub disk : AllAreKept shelf q.state.cache (ending s)
   pub awake : AreAwake q.state
   -- nobody is closing any more, nothing is owed, no row left memory for a decision, and the disk is at rest
   pub closed : has_closings (ending s) ≡ false

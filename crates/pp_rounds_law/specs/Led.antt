@@ -15,4 +15,4 @@ use Rattle.pp_rounds_law.specs.Dials.{MayGoWithout, OfAffordedDials, StandsToPla
 -- from a log that obeys the law, to where each has its place or none to go to
 abbrev pub PlacesLead : Type 0
 PlacesLead = (terms : List Term) (before : Log) (number : ℕ → ℕ) (p : Turn) (x : Around) (s : State) (more : ℕ) (log : Log) (y : Around) → Obeys terms s before → StandsToPlace number p x s → MayPlace s → Affords s log → OfAffordedDials (MayGoWithout p) number p None x s
-    → ArePlaced more (moment_of p) None x log y → AreLed number p more x log y s
+    → ArePlaced more (moment_of p) None x log y → AreLed number p log y s

@@ -1,3 +1,4 @@
+pub mod Astray
 pub mod Bounds
 pub mod Coming
 pub mod Decisions

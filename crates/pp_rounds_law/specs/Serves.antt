@@ -22,7 +22,7 @@ use Rattle.pp_state.specs.Ends.{numbers_of}
 use Rattle.pp_state.specs.declared.state.State.{State as Turn}
 use Rattle.pp_store.specs.Kept.{KeptMap}
 use Rattle.pp_world.specs.Log.{Log}
-use Rattle.pp_rounds_law.specs.Loops.{MayGoRound, RoundsRunOut}
+use Rattle.pp_rounds_law.specs.Loops.{MayGoRound, RoundsGoAstray}
 
 -- what the end rests on beside that of rounds, as long as that holds
 pub record EndSupplies (shelf : KeptMap) (I : Turn → State → Type 0) : Type 0 where
@@ -51,12 +51,12 @@ pub record HasServed (terms : List Term) (before : Log) (shelf : KeptMap) (y : M
   pub ended : HasEnded number shelf y.desk then
   pub set : StaysSet y (ending then)
 
--- rounds ran out, up to there, and replies began behind it
-pub record ServesNoMore (shelf : KeptMap) (x : Moving) (log : Log) : Type 0 where
+-- this life goes astray in rounds, up to there, and replies begin behind it
+pub record ServesAstray (shelf : KeptMap) (x : Moving) (log : Log) : Type 0 where
   pub between : Moving
-  pub out : RoundsRunOut 65536 shelf x log between
+  pub out : RoundsGoAstray 65536 shelf x log between
 
 -- the cache is bounded, as each is
 abbrev pub ServesLead : Type 0
 ServesLead = (terms : List Term) (before : Log) (shelf : KeptMap) (test : Turn → State → Bool) (x y : Moving) (log : Log) (s : State) → RoundSupplies shelf (Passes test) → EndSupplies shelf (Passes test) → MayGoRound terms before shelf (Passes test) x log s → Serves shelf x log y
-    → IsBounded y.desk.state.cache → HasServed terms before shelf y log s ⊎ ServesNoMore shelf x log
+    → IsBounded y.desk.state.cache → HasServed terms before shelf y log s ⊎ ServesAstray shelf x log

@@ -12,10 +12,10 @@ use Rattle.pp_law.specs.Permits.{is_over as may_be_over}
 use Rattle.pp_law.specs.State.{State, Term, Deciding}
 use Rattle.pp_obeys.specs.Obeys.{Obeys}
 use Rattle.pp_places_law.specs.Closings.{AreOpen}
+use Rattle.pp_proxy.specs.Deciding.{DecidesAll}
 use Rattle.pp_proxy.specs.Moving.{Moving}
 use Rattle.pp_proxy.specs.Settling.{Settles}
 use Rattle.pp_rounds_law.specs.Coming.{Affords, ComesTo}
-use Rattle.pp_rounds_law.specs.InRounds.{TakesSoMany}
 use Rattle.pp_rounds_law.specs.Stands.{StandsInRound}
 use Rattle.pp_rounds_law.specs.Supplies.{RoundSupplies}
 use Rattle.pp_rounds_law.specs.Decisions.{Passes, Supplies}
@@ -25,7 +25,7 @@ use Rattle.pp_state.specs.Numbers.{places}
 use Rattle.pp_state.specs.declared.state.State.{State as Turn}
 use Rattle.pp_store.specs.Kept.{KeptMap}
 use Rattle.pp_world.specs.Log.{Log}
-use Rattle.pp_rounds_law.specs.Serves.{EndSupplies, HasServed, ServesNoMore}
+use Rattle.pp_rounds_law.specs.Serves.{EndSupplies, HasServed, ServesAstray}
 
 -- ---- before Stop
 
@@ -37,18 +37,20 @@ pub record MaySettle (terms : List Term) (before : Log) (shelf : KeptMap) (I : T
   pub holds : I x.desk.state s
   pub at : s.phase ≡ Deciding
 
--- decisions ran out, or rounds did: nothing is claimed
-pub record SettlesNoMore (shelf : KeptMap) (x : Moving) (log : Log) : Type 0 where
+-- this life goes astray in the decisions, or in rounds behind them: nothing is claimed
+pub record SettlesAstray (shelf : KeptMap) (x : Moving) (log : Log) : Type 0 where
   pub between : Moving
   pub first : Log
   pub rest : Log
+  pub any : Bool
   pub log_is : log ≡ first ++ rest
-  pub out : TakesSoMany 65536 shelf x first between ⊎ ServesNoMore shelf between rest
+  pub decides : DecidesAll shelf x first between any
+  pub out : (between.desk.state.is_astray ≡ true) ⊎ ServesAstray shelf between rest
 
 -- the cache is bounded, as each is
 abbrev pub SettlesLead : Type 0
 SettlesLead = (terms : List Term) (before : Log) (shelf : KeptMap) (test : Turn → State → Bool) (x y : Moving) (log : Log) (s : State) → RoundSupplies shelf (Passes test) → EndSupplies shelf (Passes test) → MaySettle terms before shelf (Passes test) x log s → Settles shelf x log y
-    → IsBounded y.desk.state.cache → HasServed terms before shelf y log s ⊎ SettlesNoMore shelf x log
+    → IsBounded y.desk.state.cache → HasServed terms before shelf y log s ⊎ SettlesAstray shelf x log
 
 -- ---- at Stop
 
@@ -81,14 +83,7 @@ pub record HasStopped (terms : List Term) (before : Log) (y : Moving) (log : Log
   pub over : may_be_over then ≡ true
   pub nobody : NobodyIsLeft y
 
--- decisions ran out: nothing is claimed
-pub record StopsNoMore (shelf : KeptMap) (x : Moving) (log : Log) : Type 0 where
-  pub between : Moving
-  pub first : Log
-  pub rest : Log
-  pub log_is : log ≡ first ++ rest
-  pub out : TakesSoMany 65536 shelf x first between
-
+-- this life did not go astray: the turn's end says so
 abbrev pub StopsLead : Type 0
 StopsLead = (terms : List Term) (before : Log) (shelf : KeptMap) (test : Turn → State → Bool) (x y : Moving) (log : Log) (s : State) → StopSupplies shelf (Passes test) → Obeys terms s before → Affords s log → StandsAtStop shelf x s → Passes test x.desk.state s → Settles shelf x log y
-    → HasStopped terms before y log s ⊎ StopsNoMore shelf x log
+    → y.desk.state.is_astray ≡ false → HasStopped terms before y log s

@@ -3,7 +3,7 @@ use Rattle.std.specs.Prelude.{◌≡◌, ◌≤◌, ◌+◌, ℕ, false, length,
 use Rattle.std.specs.List.{All}
 use Rattle.pp_cache_law.specs.Kept.{AreAsKept}
 use Rattle.pp_closings_law.specs.Log.{AreLinked}
-use Rattle.pp_deciding_law.specs.Stands.{AreKept, IsDeciding}
+use Rattle.pp_deciding_law.specs.Stands.{IsDeciding}
 use Rattle.pp_desk.specs.Closings.{peer_numbers}
 use Rattle.pp_flow_law.specs.Tables.{none_leaves}
 use Rattle.pp_law.specs.Connections.{limits}
@@ -14,7 +14,7 @@ use Rattle.pp_proxy.specs.Moving.{Moving}
 use Rattle.pp_state.specs.Ends.{numbers_of}
 use Rattle.pp_store.specs.Kept.{KeptMap}
 use Rattle.pp_turns_law.specs.Firsts.{AreAwake}
-use Rattle.pp_turns_law.specs.Rows.{AreReady}
+use Rattle.pp_turns_law.specs.Rows.{AllAreKept, AreReady}
 use Rattle.pp_turns_law.specs.Turns.{ShowsTurn}
 
 -- from step to step, in whatever phase
@@ -50,4 +50,4 @@ pub record StandsInRound (shelf : KeptMap) (x : Moving) (s : State) : Type 0 whe
   pub number : ℕ → ℕ
   pub amid : StandsAmid number shelf x s
   pub deciding : IsDeciding s
-  pub disk : AreKept shelf x.desk.state.cache s
+  pub disk : AllAreKept shelf x.desk.state.cache s

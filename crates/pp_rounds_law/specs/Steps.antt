@@ -1,14 +1,12 @@
 -- The steps of a round, one by one: what nobody sees and what followers ask for, connections that are over, and places (RFC 2616, sections
 -- 8.1, 8.1.2.2 and 8.1.4; the order is ours).
-use Rattle.std.specs.Prelude.{◌≡◌, ◌⊎◌, ℕ, Bool, false, List, [], None}
+use Rattle.std.specs.Prelude.{◌≡◌, ℕ, Bool, false, List, [], None}
 use Rattle.pp_desk.specs.Origins.{without_unseen}
 use Rattle.pp_desk.specs.declared.desk.Desk.{Desk}
 use Rattle.pp_law.specs.Due.{first_due}
 use Rattle.pp_law.specs.Phases.{has_closings}
 use Rattle.pp_law.specs.State.{State, Term, Connecting, Deciding, DecidingAgain}
 use Rattle.pp_obeys.specs.Obeys.{Obeys}
-use Rattle.pp_places.specs.Around.{around, moment_of}
-use Rattle.pp_places_law.specs.Places.{Reaches}
 use Rattle.pp_proxy.specs.Closing.{ClosesOver}
 use Rattle.pp_proxy.specs.Moving.{Moving, with_desk}
 use Rattle.pp_proxy.specs.Rounds.{Becomes, Fills, GivesUp, Places}
@@ -56,10 +54,7 @@ pub record HavePlacesNow (terms : List Term) (before : Log) (number : ℕ → �
   pub amid : StandsAmid number shelf y then
   pub holds : I y.desk.state then
 
--- or so many steps did not do: `Places` of `pp_proxy` ends there
-abbrev pub PlacesRunOut : Moving → Log → Moving → Type 0
-PlacesRunOut x log y = Reaches 65536 (moment_of x.desk.state) None (around x.desk x.links x.top) log (around y.desk y.links y.top)
-
+-- this life did not go astray, as `AllLead` of Decisions has it: `Places` of `pp_proxy` says so where one is left without a place
 abbrev pub PlacesInARound : Type 0
 PlacesInARound = (terms : List Term) (before : Log) (number : ℕ → ℕ) (shelf : KeptMap) (test : Turn → State → Bool) (x y : Moving) (log : Log) (s : State) → RoundSupplies shelf (Passes test) → Obeys terms s before → StandsAmid number shelf x s → Passes test x.desk.state s
-    → Affords s log → s.phase ≡ Connecting → has_closings s ≡ false → Places x log y → HavePlacesNow terms before number shelf (Passes test) y log s ⊎ PlacesRunOut x log y
+    → Affords s log → s.phase ≡ Connecting → has_closings s ≡ false → Places x log y → y.desk.state.is_astray ≡ false → HavePlacesNow terms before number shelf (Passes test) y log s

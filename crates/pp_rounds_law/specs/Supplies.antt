@@ -4,7 +4,6 @@ use Rattle.std.specs.List.{list_any}
 use Rattle.pp_closings_law.specs.Unseen.{IsCountedOn}
 use Rattle.pp_decides_law.specs.Decides.{IsAtPlace}
 use Rattle.pp_decides_law.specs.Fills.{MayWant}
-use Rattle.pp_deciding_law.specs.Stands.{AreKept}
 use Rattle.pp_desk.specs.Origins.{without_unseen}
 use Rattle.pp_desk.specs.declared.desk.Desk.{Desk}
 use Rattle.pp_law.specs.Closing.{is_over}
@@ -30,6 +29,7 @@ use Rattle.pp_state.specs.Ends.{parts}
 use Rattle.pp_state.specs.declared.state.State.{State as Turn}
 use Rattle.pp_store.specs.Kept.{KeptMap}
 use Rattle.pp_turns_law.specs.Needs.{IsWithin}
+use Rattle.pp_turns_law.specs.Rows.{AllAreKept}
 use Rattle.pp_world.specs.Log.{Log}
 use Rattle.pp_rounds_law.specs.Stands.{StandsAmid}
 
@@ -63,7 +63,7 @@ pub record RoundSupplies (shelf : KeptMap) (I : Turn → State → Type 0) : Typ
   -- what followers rest on, where asks that bring nothing are given up
   pub asks : (number : ℕ → ℕ) (x : Moving) (seen given : Desk) (s : State) → I x.desk.state s → StandsAmid number shelf x s → Becomes without_unseen x.desk seen → GivesUp seen given → MayAskMore given.state (without_useless s)
   -- what is kept of each key is the law's: ShowsShelf and AreNoted of `pp_shelf_law`
-  pub keeps : (p : Turn) (s : State) → I p s → AreKept shelf p.cache s
+  pub keeps : (p : Turn) (s : State) → I p s → AllAreKept shelf p.cache s
   -- dials may be refused, wherever places come to, as `MayBeRefused` of `pp_places_law` has it
   pub dials : (number : ℕ → ℕ) (x : Moving) (s : State) → I x.desk.state s → ShowsAround number x.desk.state (around x.desk x.links x.top) s → MayPlace s → EachMayBeRefused number x.desk.state None (around x.desk x.links x.top) s
   -- it holds behind each step, where the turn stands before and behind, and the law's state is sound, as each that a lawful log leads to

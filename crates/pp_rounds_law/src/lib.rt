@@ -20,8 +20,12 @@
 //! the log's connections, one behind the other, and the log may end. The program neither drops what nobody sees nor gives up asks then, and the
 //! law does both: of it all who is there alone is shown. `Settles`: behind the disk a turn decides, and then serves so, or stops.
 //!
-//! Not said: a turn that takes more than 65,536 decisions or places in one go, or more than 65,536 rounds: the program ends there, and the law
-//! does not; a client for whom there was no memory, which is cut before the first decision; and a turn in which memory was refused for a row.
+//! Decisions, places, a round and a stop lead so where this life did not go astray by their end: it does where one is left behind the 65,536 that
+//! there may be in one go. What went astray stays so (`Astray`). Where a round, or the last of 65,536, goes astray, nothing is said of what is
+//! behind it (`RoundsGoAstray`): `GivesUp` of `pp_proxy` says whether a life went astray only where asks stand in order.
+//!
+//! Not said: a client for whom there was no memory, which is cut before the first decision; and a turn in which memory was refused for a row
+//! before its decisions: of theirs it was not, where this life did not go astray.
 //!
 //! To the layer above: each is the clause of a function that does nothing. It is one part of the proof that the program obeys the law.
 //!
@@ -39,6 +43,7 @@ mod looping; // rounds, one behind the other
 mod refusing; // dials, wherever places come to
 mod serving; // and replies begin
 mod settling; // from the first decision on
+mod staying; // what went astray
 mod stopping; // all are closed
 
 pub use amid::decisions_of_a_round_are_the_laws;
@@ -55,4 +60,5 @@ pub use looping::loops_lead_as_by_the_law;
 pub use refusing::dials_may_be_refused;
 pub use serving::turns_serve_as_by_the_law;
 pub use settling::{turns_settle_as_by_the_law, turns_stop_as_by_the_law};
+pub use staying::lives_stay_astray;
 pub use stopping::stops_are_the_laws;

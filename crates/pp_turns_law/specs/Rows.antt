@@ -1,5 +1,6 @@
 -- A kept row comes into memory before the request that names it is decided (ours). The law has it come in with that decision.
-use Rattle.std.specs.Prelude.{◌≡◌, ◌<◌, ℕ, Bool, false, List, [], ◌∷◌, slice_get, Option, Some, None}
+use Rattle.std.specs.Prelude.{◌≡◌, ◌<◌, ℕ, Bool, true, false, bytes_eq, List, [], ◌∷◌, slice_get, Option, Some, None}
+use Rattle.std.specs.List.{list_any}
 use Rattle.pp_cache.specs.Memory.{Memory}
 use Rattle.pp_cache_law.specs.Pairs.{AreBoth}
 use Rattle.pp_cache_law.specs.Tables.{OfTables}
@@ -20,7 +21,8 @@ use Rattle.pp_due.specs.Entering.{Comes}
 use Rattle.pp_due.specs.OnDisk.{kept_alone as kept_in_turn}
 use Rattle.pp_state.specs.declared.state.State.{State as Turn}
 use Rattle.pp_steps_law.specs.Told.{IsTold}
-use Rattle.pp_store.specs.Kept.{Kept, KeptMap}
+use Rattle.pp_store.specs.Kept.{Kept, KeptMap, kept_of as kept_in_store}
+use Rattle.pp_target.specs.Name.{name_of}
 
 -- ---- of the law
 
@@ -62,6 +64,10 @@ pub record IsKeptAs (kept : Kept) (e : Entry) : Type 0 where
 -- of each key of which no row is in memory, what is kept and may come in
 abbrev pub ShowsKept : KeptMap → Memory → State → Type 0
 ShowsKept shelf m s = (key : Bytes) → row s key ≡ None → AreBoth IsKeptAs (kept_in_turn key shelf m) (row_on_disk s key)
+
+-- of each key, as long as it may come in, also where its row is in memory
+abbrev pub AllAreKept : KeptMap → Memory → State → Type 0
+AllAreKept shelf m s = (key : Bytes) → AreBoth IsKeptAs (elim (list_any (bytes_eq (name_of key)) m.outdated) [ true ↦ None | false ↦ kept_in_store key shelf ]) (row_on_disk s key)
 
 -- a client goes on: what it follows is there, memory was not refused for its key, and what its exchange joins is told by its number
 pub record IsReady (number : ℕ → ℕ) (m : Memory) (next : ℕ) (seat : Seat) : Type 0 where

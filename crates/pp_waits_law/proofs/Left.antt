@@ -56,17 +56,19 @@ silent_of false is = absurd (cc is)
 
 -- ---- it shows what it showed
 
-pub parts_of : (p : Parts) (seats : List Seat) (flow : Exchanges) (cache : Memory) (refused : List Bytes) → p.seats ≡ seats → p.flow ≡ flow → p.cache ≡ cache → p.refused ≡ refused → p ≡ record { seats = seats; flow = flow; cache = cache; refused = refused }
-parts_of p seats flow cache refused a b c d =
-    ap₂ (λ (xs : List Seat) (f : Exchanges). let q : Parts = record { seats = xs; flow = f; cache = p.cache; refused = p.refused } in q) a b
-    ∙ ap₂ (λ (m : Memory) (ts : List Bytes). let q : Parts = record { seats = seats; flow = flow; cache = m; refused = ts } in q) c d
+pub parts_of : (p : Parts) (seats : List Seat) (flow : Exchanges) (cache : Memory) (refused : List Bytes) (astray : Bool) → p.seats ≡ seats → p.flow ≡ flow → p.cache ≡ cache → p.refused ≡ refused → p.is_astray ≡ astray
+    → p ≡ record { seats = seats; flow = flow; cache = cache; refused = refused; is_astray = astray }
+parts_of p seats flow cache refused astray a b c d e =
+    ap₂ (λ (xs : List Seat) (f : Exchanges). let q : Parts = record { seats = xs; flow = f; cache = p.cache; refused = p.refused; is_astray = p.is_astray } in q) a b
+    ∙ ap₂ (λ (m : Memory) (ts : List Bytes). let q : Parts = record { seats = seats; flow = flow; cache = m; refused = ts; is_astray = p.is_astray } in q) c d
+    ∙ ap (λ (b : Bool). let q : Parts = record { seats = seats; flow = flow; cache = cache; refused = refused; is_astray = b } in q) e
 
 module _ (number : ℕ → ℕ) (before : List ℕ) (w : Wants) (clients : ℕ) (d e : Desk) (s : State) (stands : StandsToWait number d s) (awaits : Awaits before w clients d e) where
   of_turn : {A : Type 0} (f : Turn → A) → f (record e.state { seats = d.state.seats; awake = d.state.awake }) ≡ f d.state
   of_turn f = ap (λ (x : Desk). f x.state) awaits.rest
 
   pub same_parts : parts e.state ≡ parts d.state
-  same_parts = parts_of (parts e.state) d.state.seats.items d.state.flow d.state.cache d.state.refused awaits.seats (of_turn (λ (t : Turn). t.flow)) (of_turn (λ (t : Turn). t.cache)) (of_turn (λ (t : Turn). t.refused))
+  same_parts = parts_of (parts e.state) d.state.seats.items d.state.flow d.state.cache d.state.refused d.state.is_astray awaits.seats (of_turn (λ (t : Turn). t.flow)) (of_turn (λ (t : Turn). t.cache)) (of_turn (λ (t : Turn). t.refused)) (of_turn (λ (t : Turn). t.is_astray))
 
   same_name : e.state.name.items ≡ d.state.name.items
   same_name = of_turn (λ (t : Turn). t.name.items)

@@ -213,8 +213,8 @@ module _ (number : ℕ → ℕ) (w : Wants) (clients : ℕ) (e f : Desk) (s : St
 
   same_parts : parts f.state ≡ rested_parts
   same_parts =
-      parts_of (parts f.state) f.state.seats.items wanted p.cache p.refused refl
-      (rests.flow ∙ ap (λ (xs : List Seat). all_wanted p.awake.items xs p.flow) (sym rests.seats)) same_cache (of_turn (λ (t : Turn). t.refused))
+      parts_of (parts f.state) f.state.seats.items wanted p.cache p.refused p.is_astray refl
+      (rests.flow ∙ ap (λ (xs : List Seat). all_wanted p.awake.items xs p.flow) (sym rests.seats)) same_cache (of_turn (λ (t : Turn). t.refused)) (of_turn (λ (t : Turn). t.is_astray))
 
   peers_are : f.peers ≡ peers_a
   peers_are = rests.peers ∙ ap (λ (now : ℕ). map (rested_peer clients w now) e.peers) stands.turn.clock
