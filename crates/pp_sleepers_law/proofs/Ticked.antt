@@ -144,11 +144,12 @@ marked_numbers false now seats = refl
 second_numbers : (now : ℕ) (s : State) (x : Sides) → Same x.parts (second_begun now s x).parts
 second_numbers now s x = mapped_numbers (woken_seat now s) (marked_seats (is_leap now s.has_ticked s.now) now x.parts.seats) (λ seat. woken_number now s seat) ∙ marked_numbers (is_leap now s.has_ticked s.now) now x.parts.seats
 
-pub tick_numbers : (seconds : ℕ) (old new : Desk) → TicksOn seconds old new → numbers_of new.state.seats.items ≡ numbers_of old.state.seats.items
-tick_numbers seconds old new ticks = ap (λ (x : Sides). numbers_of x.parts.seats) ticks.is ∙ all_idle now (peer_numbers begun.peers) begun ∙ second_numbers now old.state (sides old)
-  where
-    abbrev now : ℕ
-    now = max old.state.now seconds
+module _ (seconds : ℕ) (old new : Desk) (ticks : TicksOn seconds old new) where
+  abbrev now : ℕ
+  now = max old.state.now seconds
 
-    abbrev begun : Sides
-    begun = second_begun now old.state (sides old)
+  abbrev begun : Sides
+  begun = second_begun now old.state (sides old)
+
+  pub tick_numbers : numbers_of new.state.seats.items ≡ numbers_of old.state.seats.items
+  tick_numbers = ap (λ (x : Sides). numbers_of x.parts.seats) ticks.is ∙ all_idle now (peer_numbers begun.peers) begun ∙ second_numbers now old.state (sides old)

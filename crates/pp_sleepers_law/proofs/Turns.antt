@@ -43,44 +43,48 @@ leaving x log y l = awake_as x.desk.state y.desk.state (leaves x log y l)
 pub keeping : KeepingKeepsAwake
 keeping x y k = awake_as x.moving.desk.state y.moving.desk.state (keeps x y k)
 
+module _ (event : Event) (x y : Turning) (can : CanTake event x) (takes : TakesEvent event x y) where
+  abbrev a : State
+  a = x.moving.desk.state
+
+  abbrev b : State
+  b = takes.handled.moving.desk.state
+
+  abbrev c : State
+  c = takes.left.moving.desk.state
+
+  abbrev d : State
+  d = takes.kept.moving.desk.state
+
+  abbrev e : State
+  e = y.moving.desk.state
+
+  well : CanGoOn b
+  well = can.behind takes.handled (takes.handles can.seated)
+
+  left : Stays b c
+  left = let on = takes.leaves well.seated in leaves takes.handled.moving on.added takes.left.moving on.is
+
+  kept : Stays c d
+  kept = keeps takes.left takes.kept takes.keeps
+
+  seated : AreSeated d
+  seated = subst (λ (ns : List ℕ). AreInOrder ns) (sym (kept.numbers ∙ left.numbers)) well.seated
+
+  room : HasRoom d
+  room = subst (λ a. length d.seats.items ≤ vec_capacity a) (sym (kept.awake ∙ left.awake))
+      (subst (λ (n : ℕ). n ≤ vec_capacity b.awake) (sym (count_same d.seats.items b.seats.items (kept.numbers ∙ left.numbers))) well.room)
+
+  settled : LeadsOn (Settles takes.kept.shelf) takes.kept.moving y.moving takes.kept.log y.log takes.kept.faults y.faults
+  settled = takes.settles seated
+
+  all_awake : KeepsAwake a e
+  all_awake =
+      then_awake a b e (handled event x takes.handled can.looks (takes.handles can.seated))
+      (then_awake b c e (awake_as b c left) (then_awake c d e (awake_as c d kept) (settles takes.kept.shelf takes.kept.moving settled.added y.moving room settled.is)))
+
 pub turns : TurnsKeepAwake
-turns event x y can takes =
-    then_awake a b e (handled event x takes.handled can.looks (takes.handles can.seated))
-    (then_awake b c e (awake_as b c left) (then_awake c d e (awake_as c d kept) (settles takes.kept.shelf takes.kept.moving settled.added y.moving room settled.is)))
-  where
-    abbrev a : State
-    a = x.moving.desk.state
-
-    abbrev b : State
-    b = takes.handled.moving.desk.state
-
-    abbrev c : State
-    c = takes.left.moving.desk.state
-
-    abbrev d : State
-    d = takes.kept.moving.desk.state
-
-    abbrev e : State
-    e = y.moving.desk.state
-
-    well : CanGoOn b
-    well = can.behind takes.handled (takes.handles can.seated)
-
-    left : Stays b c
-    left = let on = takes.leaves well.seated in leaves takes.handled.moving on.added takes.left.moving on.is
-
-    kept : Stays c d
-    kept = keeps takes.left takes.kept takes.keeps
-
-    seated : AreSeated d
-    seated = subst (λ (ns : List ℕ). AreInOrder ns) (sym (kept.numbers ∙ left.numbers)) well.seated
-
-    room : HasRoom d
-    room = subst (λ a. length d.seats.items ≤ vec_capacity a) (sym (kept.awake ∙ left.awake))
-        (subst (λ (n : ℕ). n ≤ vec_capacity b.awake) (sym (count_same d.seats.items b.seats.items (kept.numbers ∙ left.numbers))) well.room)
-
-    settled : LeadsOn (Settles takes.kept.shelf) takes.kept.moving y.moving takes.kept.log y.log takes.kept.faults y.faults
-    settled = takes.settles seated
+turns event x y can takes = all_awake event x y can takes
 
 pub to_next_wait : ReadStayToNextWait
 to_next_wait read wants None x y may comes were = subst (λ (d : Desk). WereRead read d.state) (sym comes.desk) were
