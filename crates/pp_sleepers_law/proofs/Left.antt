@@ -10,7 +10,7 @@ use Rattle.pp_proxy.specs.Awaiting.{Awaits, Rests}
 use Rattle.pp_seats.specs.Seats.{is_silent}
 use Rattle.pp_seats.specs.declared.seat.Seat.{Seat}
 use Rattle.pp_sleepers_law.proofs.Read.{silent_read, written}
-use Rattle.pp_sleepers_law.proofs.Reading.{IsOf, found, has_at, in_those, its_number, one_place}
+use Rattle.pp_sleepers_law.proofs.Written.{IsOf, found, has_at, in_those, its_number, one_place}
 use Rattle.pp_sleepers_law.specs.Asleep.{WereRead}
 use Rattle.pp_sleepers_law.specs.Reads.{MayRead, WaitsLeaveRead}
 use Rattle.pp_state.specs.Ends.{AreInOrder, numbers_of}

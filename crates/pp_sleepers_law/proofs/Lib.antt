@@ -7,8 +7,8 @@ pub mod Left
 pub mod Loads
 pub mod Places
 pub mod Read
-pub mod Reading
 pub mod Rising
 pub mod Rounds
 pub mod Ticked
 pub mod Turns
+pub mod Written

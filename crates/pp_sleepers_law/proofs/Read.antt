@@ -27,7 +27,7 @@ use Rattle.pp_seats.specs.declared.front.Front.TheVariants.{NoHeadYet as NoneYet
 use Rattle.pp_seats.specs.declared.seat.Seat.{Seat}
 use Rattle.pp_seats_law.specs.Fronts.{IsHeadTaken, ShowsFront, ShowsHeard, StandsStill}
 use Rattle.pp_seats_law.specs.Seats.{ShowsOpen}
-use Rattle.pp_sleepers_law.proofs.Reading.{read_written}
+use Rattle.pp_sleepers_law.proofs.Written.{read_written}
 use Rattle.pp_sleepers_law.specs.Reads.{ClientsAreRead, MayRead, NoMoreIsRead, OriginsAreRead, ReadAreWritten}
 use Rattle.pp_state.specs.Ends.{Parts, numbers_of, parts}
 use Rattle.pp_state.specs.Lines.{first_on}
