@@ -1,14 +1,14 @@
 -- Nobody falls asleep: what that keeps, and where it is so.
-use Rattle.std.proofs.Common.{◌≡◌, ◌≤◌, ◌<◌, ◌⊎◌, inl, inr, refl, sym, subst, ap, ap₂, ◌∙◌, ℕ, zero, suc, Bool, true, false, ◌||◌, ◌==◌, nat_lt, length, List, [], ◌∷◌, ◌++◌, Some, None, arith}
+use Rattle.std.proofs.Common.{◌≡◌, ◌≤◌, ◌<◌, ◌⊎◌, inl, inr, refl, sym, subst, ap, ◌∙◌, ℕ, zero, suc, Bool, true, false, ◌||◌, ◌==◌, nat_lt, length, List, [], ◌∷◌, ◌++◌, Some, None, arith}
 use Rattle.std.proofs.lemmas.Bool.Decides.{nat_tests}
 use Rattle.std.proofs.lemmas.Option.{slice_get_within}
 use Rattle.std.specs.Prelude.{slice_get, vec_capacity}
 use Rattle.pp_law.specs.Lists.{has_number}
 use Rattle.pp_seats.specs.declared.seat.Seat.{Seat}
 use Rattle.pp_sleepers_law.proofs.Rising.{false_true}
-use Rattle.pp_sleepers_law.specs.Asleep.{AwakeByAndBy, KeepsAwake, LooksAtAll, LooksOn, NobodyWasRead, ReadStay, WereRead}
+use Rattle.pp_sleepers_law.specs.Asleep.{AwakeByAndBy, KeepsAwake, LooksAtAll, NobodyWasRead, ReadStay}
 use Rattle.pp_sleepers_law.specs.Steps.{HasRoom}
-use Rattle.pp_state.specs.Ends.{AreInOrder, numbers_of}
+use Rattle.pp_state.specs.Ends.{numbers_of}
 use Rattle.pp_state.specs.Numbers.{places}
 use Rattle.pp_state.specs.declared.state.State.{State}
 

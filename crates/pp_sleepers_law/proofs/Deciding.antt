@@ -1,5 +1,5 @@
 -- Where what is due is taken, nobody falls asleep.
-use Rattle.std.proofs.Common.{◌≡◌, ap, ◌∙◌, ℕ, zero, suc, Bool, true, false, List, [], ◌++◌, Option, Some, None}
+use Rattle.std.proofs.Common.{◌≡◌, ap, ◌∙◌, ℕ, zero, suc, Bool, true, false, [], ◌++◌, Option, Some, None}
 use Rattle.pp_desk.specs.Closings.{KeepsDesk}
 use Rattle.pp_desk.specs.declared.desk.Desk.{Desk}
 use Rattle.pp_proxy.proofs.FoundLemmas.{Stays, found_stays}

@@ -1,24 +1,23 @@
 -- An event puts nobody to sleep.
-use Rattle.std.proofs.Common.{◌≡◌, ◌≤◌, ◌<◌, inl, inr, refl, sym, subst, ap, ◌∙◌, ℕ, zero, suc, Bool, true, false, ◌||◌, ◌==◌, length, List, [], ◌∷◌, ◌++◌, Option, Some, None, arith}
+use Rattle.std.proofs.Common.{◌≡◌, ◌≤◌, ◌<◌, inl, inr, refl, sym, subst, ap, ◌∙◌, ℕ, suc, Bool, true, false, ◌||◌, ◌==◌, length, List, [], ◌∷◌, ◌++◌, Option, Some, None, arith}
 use Rattle.std.specs.Prelude.{vec_capacity}
 use Rattle.pp_desk.specs.declared.desk.Desk.{Desk}
 use Rattle.pp_law.specs.Lists.{has_number}
 use Rattle.pp_origins.specs.Gots.{both}
 use Rattle.pp_proxy.specs.Accepting.{IsAccepted, newcomer}
-use Rattle.pp_proxy.specs.Handling.{AsksOn, Breaks, Handles, HearsAt, Reaches, ReadsBy, ReceivesOn, Rouses, SaysAt, Wakes, WritesBy}
+use Rattle.pp_proxy.specs.Handling.{AsksOn, HearsAt, ReadsBy, ReceivesOn, Rouses, SaysAt, Wakes, WritesBy}
 use Rattle.pp_proxy.specs.Moving.{Turning, at_desk}
 use Rattle.pp_seats.specs.declared.seat.Seat.{Seat}
-use Rattle.pp_sleepers_law.proofs.Awake.{all_awake, as_many, count_same, stay, then_awake}
+use Rattle.pp_sleepers_law.proofs.Awake.{all_awake, count_same, stay, then_awake}
 use Rattle.pp_sleepers_law.proofs.Got.{receives}
 use Rattle.pp_sleepers_law.proofs.Loads.{loads}
 use Rattle.pp_sleepers_law.proofs.Rising.{has_with, is_itself}
 use Rattle.pp_sleepers_law.proofs.Ticked.{tick_numbers}
 use Rattle.pp_sleepers_law.specs.Asleep.{KeepsAwake}
-use Rattle.pp_sleepers_law.specs.Steps.{CanLook, EventsKeepAwake, HasRoom}
+use Rattle.pp_sleepers_law.specs.Steps.{CanLook, EventsKeepAwake}
 use Rattle.pp_state.specs.Ends.{AreInOrder, numbers_of, place_of}
 use Rattle.pp_state.specs.Numbers.{places, with_number}
 use Rattle.pp_state.specs.declared.state.State.{State}
-use Rattle.pp_world.specs.declared.event.Event.{Event}
 use Rattle.pp_world.specs.declared.event.Event.TheVariants.{Stop, Tick, Accepted, Readable, Writable, Reached, Broken}
 
 -- ---- the same are looked at, or one more

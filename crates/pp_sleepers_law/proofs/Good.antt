@@ -1,27 +1,22 @@
 -- Each of the wants is as good as the law's.
-use Rattle.std.proofs.Common.{◌≡◌, ◌⊎◌, inl, inr, refl, sym, subst, ap, ap₂, ◌∙◌, ℕ, zero, suc, Bool, true, false, not, ◌&&◌, ◌||◌, List, [], ◌∷◌, Option, Some, None}
+use Rattle.std.proofs.Common.{◌≡◌, inl, inr, refl, sym, ap, ◌∙◌, ℕ, suc, Bool, true, false, not, ◌&&◌, ◌||◌, List, [], ◌∷◌, Option, Some, None}
 use Rattle.std.specs.List.{list_all}
 use Rattle.std.specs.Prelude.{slice_get}
-use Rattle.pp_desk.specs.declared.desk.Desk.{Desk}
 use Rattle.pp_law.specs.Asking.{has_room}
 use Rattle.pp_law.specs.Connections.{front_of_line, is_outstanding}
 use Rattle.pp_law.specs.Lists.{is_some_with}
-use Rattle.pp_law.specs.Offers.{has_to_say}
 use Rattle.pp_law.specs.Phases.{ending}
 use Rattle.pp_law.specs.Requests.{has_request}
 use Rattle.pp_law.specs.Served.{has_to_ask, is_stopped, may_read, may_write}
-use Rattle.pp_law.specs.State.{State, Client, Conn, Exchange}
+use Rattle.pp_law.specs.State.{State, Conn, Exchange}
 use Rattle.pp_laws.specs.Runs.{IsIn}
-use Rattle.pp_laws_ends.specs.Ends.{owes_body, reads_client, reads_conn}
+use Rattle.pp_laws_ends.specs.Ends.{owes_body}
 use Rattle.pp_laws_served.proofs.Joined.{turns_end}
-use Rattle.pp_laws_served.specs.Served.{IsAsGood, is_awaited}
-use Rattle.pp_proxy.specs.Awaiting.{Awaits}
 use Rattle.pp_sleepers_law.proofs.Read.{clients_read, no_more_read, origins_read}
-use Rattle.pp_sleepers_law.specs.Good.{MayWait, WaitsArePermitted, WantsAreAsGood}
+use Rattle.pp_sleepers_law.specs.Good.{WaitsArePermitted, WantsAreAsGood}
 use Rattle.pp_waits_law.proofs.Others.{no_more_written}
 use Rattle.pp_waits_law.proofs.Says.{says_wanted}
 use Rattle.pp_waits_law.proofs.Wanted.{accepts_wanted, asks_wanted}
-use Rattle.pp_world.specs.declared.event.Wants.{Wants}
 
 record StandsAt {A : Type 0} (x : A) (xs : List A) : Type 0 where
   place : ℕ

@@ -1,5 +1,5 @@
 -- What an origin sent leaves those who are looked at as they are.
-use Rattle.std.proofs.Common.{◌≡◌, refl, sym, ap, ◌∙◌, inl, inr, ℕ, zero, suc, Bool, true, false, cond, List, [], ◌∷◌, Option, Some, None, Result, Ok, Err}
+use Rattle.std.proofs.Common.{◌≡◌, refl, ap, ◌∙◌, inl, inr, ℕ, zero, suc, Bool, true, false, List, [], ◌∷◌, Option, Some, None, Ok, Err}
 use Rattle.std.specs.List.{find}
 use Rattle.std.specs.Prelude.{is_some, nat_le, nat_lt, count_by, take}
 use Rattle.pp_answers.specs.FinalHeads.{answer_to, roomed, roomed_by, roomed_for, version_in}
@@ -25,7 +25,7 @@ use Rattle.pp_peers.specs.declared.peers.Peer.{Peer}
 use Rattle.pp_pipe.specs.declared.step.Step.{Step}
 use Rattle.pp_pipe.specs.declared.step.Step.TheVariants.{Head, Body, End, Bad, Idle}
 use Rattle.pp_state.specs.Astray.{gone_astray_where}
-use Rattle.pp_state.specs.Bodies.{delivered, delivered_for, joined_by, joined_within, left_for}
+use Rattle.pp_state.specs.Bodies.{delivered_for, joined_by, joined_within, left_for}
 use Rattle.pp_state.specs.Ends.{exchange_at, parts}
 use Rattle.pp_state.specs.Keys.{key_of}
 use Rattle.pp_state.specs.Known.{row_for}
@@ -35,9 +35,7 @@ use Rattle.pp_state.specs.declared.state.State.{State}
 use Rattle.pp_store.specs.Kept.{KeptMap}
 use Rattle.pp_valid.specs.declared.version.Version.{Version}
 use Rattle.pp_world.specs.Log.{Log}
-use Rattle.pp_world.specs.declared.event.Got.{Got}
 use Rattle.pp_world.specs.declared.event.Got.TheVariants.{Bytes, End as Ended, NotYet}
-use Rattle.pp_world.specs.declared.wire.WireFault.{WireFault}
 
 -- ---- in a state
 

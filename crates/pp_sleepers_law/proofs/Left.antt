@@ -1,5 +1,5 @@
 -- Behind a wait whoever is not looked at was read there.
-use Rattle.std.proofs.Common.{◌≡◌, inr, refl, sym, subst, ap, ◌∙◌, ℕ, Bool, true, false, filter, take, List, [], Some}
+use Rattle.std.proofs.Common.{◌≡◌, inr, sym, subst, ap, ◌∙◌, ℕ, true, false, filter, take, List, Some}
 use Rattle.std.specs.Prelude.{slice_get}
 use Rattle.pp_desk.proofs.ClosingLemmas.{order_kept}
 use Rattle.pp_desk.specs.declared.desk.Desk.{Desk}
@@ -13,8 +13,7 @@ use Rattle.pp_sleepers_law.proofs.Read.{silent_read, written}
 use Rattle.pp_sleepers_law.proofs.Written.{IsOf, found, has_at, in_those, its_number, one_place}
 use Rattle.pp_sleepers_law.specs.Asleep.{WereRead}
 use Rattle.pp_sleepers_law.specs.Reads.{MayRead, WaitsLeaveRead}
-use Rattle.pp_state.specs.Ends.{AreInOrder, numbers_of}
-use Rattle.pp_state.specs.declared.state.State.{State as Turn}
+use Rattle.pp_state.specs.Ends.{numbers_of}
 use Rattle.pp_waits_law.proofs.Left.{wants_leave}
 use Rattle.pp_waits_law.proofs.Like.{all_numbers, waiting_is}
 use Rattle.pp_waits_law.proofs.Says.{its_test}

@@ -1,5 +1,5 @@
 -- A chunk that is read back leaves those who are looked at as they are.
-use Rattle.std.proofs.Common.{◌≡◌, refl, ap, ℕ, List, Option, Some, None, Result, Ok, Err}
+use Rattle.std.proofs.Common.{◌≡◌, ap, ℕ, List, Option, Some, None, Ok, Err}
 use Rattle.std.specs.Prelude.{slice_get}
 use Rattle.std.specs.Option.{option_and_then}
 use Rattle.pp_due.specs.OnDisk.{next_on_disk}
@@ -9,7 +9,6 @@ use Rattle.pp_seats.specs.declared.seat.Next.{Next}
 use Rattle.pp_state.specs.Bringing.{instance_of}
 use Rattle.pp_state.specs.declared.state.State.{State}
 use Rattle.pp_store.specs.Kept.{KeptMap}
-use Rattle.pp_store.specs.declared.faults.LoadFault.{LoadFault}
 use Rattle.pp_talk.specs.Loading.{Answer, LoadsNext, LoadsOf, LoadsWhere, TakesChunk, chunk_at}
 use Rattle.pp_world.specs.Log.{Log}
 

@@ -1,5 +1,5 @@
 -- Places that rise: as many as there are where all of them are there.
-use Rattle.std.proofs.Common.{◌≡◌, ◌≤◌, ◌<◌, refl, sym, subst, ap, ap₂, ◌∙◌, ℕ, zero, suc, ◌+◌, Bool, true, false, ◌||◌, ◌==◌, nat_lt, length, List, [], ◌∷◌, arith}
+use Rattle.std.proofs.Common.{◌≡◌, ◌≤◌, ◌<◌, refl, sym, subst, ◌∙◌, ℕ, suc, ◌+◌, Bool, true, false, nat_lt, length, List, [], ◌∷◌, arith}
 use Rattle.std.proofs.lemmas.Bool.Decides.{nat_tests}
 use Rattle.pp_flow_law.specs.Tables.{AreGiven}
 use Rattle.pp_law.specs.Lists.{has_number}

@@ -1,10 +1,9 @@
 -- At a wait each client is read that is to be, and each origin; and nobody else is.
-use Rattle.std.proofs.Common.{◌≡◌, ◌≤◌, ◌<◌, ◌⊎◌, inl, inr, refl, sym, subst, ap, ap₂, ◌∙◌, ℕ, zero, suc, ◌+◌, ◌-◌, Bool, true, false, not, ◌&&◌, ◌||◌, ◌==◌, cond, filter, nat_lt, length, List, [], ◌∷◌, ◌++◌, Option, Some, None, arith}
+use Rattle.std.proofs.Common.{◌≡◌, ◌≤◌, ◌<◌, inl, refl, sym, subst, ap, ap₂, ◌∙◌, ℕ, suc, ◌+◌, ◌-◌, Bool, true, false, not, ◌&&◌, ◌||◌, ◌==◌, cond, filter, nat_lt, length, List, [], ◌∷◌, ◌++◌, Some, arith}
 use Rattle.std.proofs.lemmas.Bool.Decides.{nat_tests}
-use Rattle.std.specs.List.{fold, list_all, list_any}
+use Rattle.std.specs.List.{list_all, list_any}
 use Rattle.std.specs.Prelude.{slice_get}
 use Rattle.pp_cache_law.proofs.Numbers.{some_is}
-use Rattle.pp_client.specs.Requests.{room_of}
 use Rattle.pp_desk.specs.declared.desk.Desk.{Desk}
 use Rattle.pp_due.specs.Waits.{all_read, is_read}
 use Rattle.pp_flow_law.proofs.Entries.{other_way}
@@ -13,7 +12,7 @@ use Rattle.pp_head.proofs.RequestAgrees.{request_holds}
 use Rattle.pp_head.specs.Agreement.{IsRequestRead}
 use Rattle.pp_head.specs.Read.{Read, Whole, TooLong, Bad, More}
 use Rattle.pp_head.specs.Request.{Request, request_at}
-use Rattle.pp_law.specs.Connections.{front_of_line, is_conn}
+use Rattle.pp_law.specs.Connections.{is_conn}
 use Rattle.pp_law.specs.Lists.{Bytes, has_number}
 use Rattle.pp_law.specs.Requests.{Front, NoHeadYet, NoHead, IsRequest, front_in, front_of}
 use Rattle.pp_law.specs.Served.{may_read}
@@ -25,11 +24,11 @@ use Rattle.pp_seats.specs.Seats.{is_silent, is_undecided_in}
 use Rattle.pp_seats.specs.declared.front.Front.{Front as SeatFront}
 use Rattle.pp_seats.specs.declared.front.Front.TheVariants.{NoHeadYet as NoneYet, NoHead as NoneThere, Request as IsThere}
 use Rattle.pp_seats.specs.declared.seat.Seat.{Seat}
-use Rattle.pp_seats_law.specs.Fronts.{IsHeadTaken, ShowsFront, ShowsHeard, StandsStill}
+use Rattle.pp_seats_law.specs.Fronts.{IsHeadTaken, ShowsFront, StandsStill}
 use Rattle.pp_seats_law.specs.Seats.{ShowsOpen}
 use Rattle.pp_sleepers_law.proofs.Written.{read_written}
 use Rattle.pp_sleepers_law.specs.Reads.{ClientsAreRead, MayRead, NoMoreIsRead, OriginsAreRead, ReadAreWritten}
-use Rattle.pp_state.specs.Ends.{Parts, numbers_of, parts}
+use Rattle.pp_state.specs.Ends.{numbers_of, parts}
 use Rattle.pp_state.specs.Lines.{first_on}
 use Rattle.pp_states_law.proofs.Lines.{same_itself}
 use Rattle.pp_turns_law.proofs.First.{IsShownAt, client_shown, seat_shown}

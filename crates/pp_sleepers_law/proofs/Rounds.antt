@@ -1,14 +1,14 @@
 -- In the rounds behind the decisions nobody falls asleep, and where a client goes all are looked at.
-use Rattle.std.proofs.Common.{◌≡◌, ◌≤◌, refl, sym, subst, ap, ◌∙◌, ℕ, zero, suc, Bool, true, false, cond, filter, length, List, [], ◌∷◌, ◌++◌, Option, Some, None, arith}
+use Rattle.std.proofs.Common.{◌≡◌, ◌≤◌, refl, sym, subst, ap, ◌∙◌, ℕ, zero, suc, Bool, true, false, cond, filter, length, List, [], ◌∷◌, Option, Some, None, arith}
 use Rattle.std.specs.Prelude.{slice_get, vec_capacity}
 use Rattle.pp_desk.specs.Shutting.{is_any_over, seats_left, stays}
 use Rattle.pp_desk.specs.declared.desk.Desk.{Desk}
 use Rattle.pp_law.specs.Lists.{has_number}
 use Rattle.pp_objects.specs.declared.id.ObjectId.{ObjectId}
 use Rattle.pp_proxy.specs.Closing.{ClosesOver}
-use Rattle.pp_proxy.specs.Moving.{Moving, with_desk, with_state}
+use Rattle.pp_proxy.specs.Moving.{Moving, with_desk}
 use Rattle.pp_proxy.specs.Rounds.{BeginsAll, GoRounds, GoesRound, Serves}
-use Rattle.pp_proxy.specs.Settling.{GoesOn, Settles}
+use Rattle.pp_proxy.specs.Settling.{GoesOn}
 use Rattle.pp_seats.specs.declared.seat.Answer.{Answer}
 use Rattle.pp_seats.specs.declared.seat.Seat.{Seat}
 use Rattle.pp_seats.specs.declared.seat.Stage.{Stage}

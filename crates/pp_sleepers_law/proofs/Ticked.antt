@@ -1,5 +1,5 @@
 -- A tick leaves all clients their numbers.
-use Rattle.std.proofs.Common.{◌≡◌, refl, ap, ◌∙◌, ℕ, zero, suc, Bool, true, false, ◌&&◌, not, cond, find, map, max, List, [], ◌∷◌, Option, Some, None}
+use Rattle.std.proofs.Common.{◌≡◌, refl, ap, ◌∙◌, ℕ, zero, suc, Bool, true, false, ◌&&◌, not, cond, find, max, List, [], ◌∷◌, Option, Some, None}
 use Rattle.std.specs.List.{fold}
 use Rattle.pp_decide.specs.Patience.{is_leap}
 use Rattle.pp_desk.specs.Closings.{Sides, closed_conn, closed_line, peer_numbers, sides, with_parts}
@@ -23,7 +23,7 @@ use Rattle.pp_seats.specs.declared.seat.PassedEnd.TheVariants.{Short}
 use Rattle.pp_seats.specs.declared.seat.Seat.{Seat}
 use Rattle.pp_state.proofs.SeatsLemmas.{anew_numbers, changed_numbers, mapped_numbers, without_row-number}
 use Rattle.pp_state.specs.Asking.{owed_answer}
-use Rattle.pp_state.specs.Ends.{Parts, asked_elsewhere, charged, charged_at, charged_where, cleared_of, cleared_row, cut_short, dropped_row, ended, exchange_at, failed, given_up_row, is_unfilled_at, left_place, left_place_at, lost_attempt, lost_place, may_go_elsewhere, numbers_of, on_seat, on_seat_where, seat_for, with_course}
+use Rattle.pp_state.specs.Ends.{Parts, asked_elsewhere, charged, charged_at, charged_where, cleared_of, cleared_row, cut_short, dropped_row, ended, exchange_at, given_up_row, is_unfilled_at, left_place, left_place_at, lost_attempt, lost_place, may_go_elsewhere, numbers_of, on_seat, on_seat_where, seat_for, with_course}
 use Rattle.pp_state.specs.Keys.{key_of}
 use Rattle.pp_state.specs.Lines.{first_on, lost_line}
 use Rattle.pp_state.specs.declared.state.State.{State}

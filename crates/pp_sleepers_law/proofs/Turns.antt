@@ -1,24 +1,22 @@
 -- From a wait to the next nobody falls asleep.
-use Rattle.std.proofs.Common.{◌≡◌, ◌≤◌, refl, sym, subst, ap, ◌∙◌, ℕ, length, List, Option, Some, None}
+use Rattle.std.proofs.Common.{◌≡◌, ◌≤◌, sym, subst, ap, ◌∙◌, ℕ, length, List, Some, None}
 use Rattle.std.specs.Prelude.{vec_capacity}
 use Rattle.pp_desk.specs.declared.desk.Desk.{Desk}
 use Rattle.pp_law.specs.Lists.{has_number}
-use Rattle.pp_proxy.specs.Awaiting.{ComesTo, behind}
+use Rattle.pp_proxy.specs.Awaiting.{behind}
 use Rattle.pp_proxy.specs.Events.{Keeps, TakesEvent}
 use Rattle.pp_proxy.specs.Leaving.{Leaves}
 use Rattle.pp_proxy.specs.Moving.{LeadsOn, Moving, Turning}
 use Rattle.pp_proxy.specs.Settling.{Settles}
-use Rattle.pp_seats.specs.declared.seat.Seat.{Seat}
 use Rattle.pp_sleepers_law.proofs.Awake.{count_same, read_stay, stay, then_awake}
 use Rattle.pp_sleepers_law.proofs.Events.{handled}
 use Rattle.pp_sleepers_law.proofs.Rounds.{settles}
 use Rattle.pp_sleepers_law.specs.Asleep.{KeepsAwake, WereRead}
-use Rattle.pp_sleepers_law.specs.Steps.{CanGoOn, CanTake, HasRoom, KeepingKeepsAwake, LeavingKeepsAwake, MayCome, ReadStayToNextWait, TurnsKeepAwake}
+use Rattle.pp_sleepers_law.specs.Steps.{CanGoOn, CanTake, HasRoom, KeepingKeepsAwake, LeavingKeepsAwake, ReadStayToNextWait, TurnsKeepAwake}
 use Rattle.pp_state.specs.Ends.{AreInOrder, AreSeated, numbers_of}
 use Rattle.pp_state.specs.declared.state.State.{State}
 use Rattle.pp_world.specs.Log.{Log}
 use Rattle.pp_world.specs.declared.event.Event.{Event}
-use Rattle.pp_world.specs.declared.event.Wants.{Wants}
 
 -- the same clients, of whom the same are looked at
 record Stays (old new : State) : Type 0 where

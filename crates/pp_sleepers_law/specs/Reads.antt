@@ -7,7 +7,6 @@ use Rattle.std.specs.Prelude.{◌≡◌, ◌&&◌, not, ℕ, true, take, List, f
 use Rattle.std.specs.List.{list_all}
 use Rattle.pp_desk.specs.declared.desk.Desk.{Desk}
 use Rattle.pp_due.specs.Waits.{all_read, is_read}
-use Rattle.pp_endings_law.specs.Waits.{MayBeAsked}
 use Rattle.pp_law.specs.Asking.{has_room}
 use Rattle.pp_law.specs.Connections.{front_of_line}
 use Rattle.pp_law.specs.Lists.{is_some_with}
