@@ -137,11 +137,11 @@ few low (x ∷ xs) (y ∷ ys) up over among = by (compare x y) (λ low xs up ove
     by (Before lt) rest = absurd (false_true (none_below x y (y ∷ ys) (omega arith, over.1) lt) (among x (at_front x xs)))
     by (Same is) rest =
         let shorter : length xs ≤ length ys = rest (y + 1) xs (subst (λ (k : ℕ). Above (k + 1) xs) is up.1) over.1
-            (λ n has. let over_x : x + 1 ≤ n = at_least n (x + 1) xs up.1 has in sym (later n y ys (omega (arith, over_x, is))) ∙ among n (later n x xs (omega (arith, over_x)) ∙ has)) in
+        (λ n has. let over_x : x + 1 ≤ n = at_least n (x + 1) xs up.1 has in sym (later n y ys (omega (arith, over_x, is))) ∙ among n (later n x xs (omega (arith, over_x)) ∙ has)) in
         omega (arith, shorter)
     by (Behind gt) rest =
         let shorter : suc (length xs) ≤ length ys = rest (y + 1) (x ∷ xs) (omega (arith, gt), up.1) over.1
-            (λ n has. let over_x : x ≤ n = at_least n x (x ∷ xs) (omega arith, up.1) has in sym (later n y ys (omega (arith, over_x, gt))) ∙ among n has) in
+        (λ n has. let over_x : x ≤ n = at_least n x (x ∷ xs) (omega arith, up.1) has in sym (later n y ys (omega (arith, over_x, gt))) ∙ among n has) in
         omega (arith, shorter)
 
 pub same_lists : (low : ℕ) (xs ys : List ℕ) → Above low xs → Above low ys → ((n : ℕ) → has_number n xs ≡ has_number n ys) → xs ≡ ys
