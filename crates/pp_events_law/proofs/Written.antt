@@ -11,7 +11,7 @@ use Rattle.pp_desk.specs.declared.desk.Desk.{Desk}
 use Rattle.pp_due.specs.OnDisk.{next_on_disk}
 use Rattle.pp_events_law.proofs.Standing.{awake_as, may_as, open_as}
 use Rattle.pp_events_law.proofs.Sayings.{sayings_lead}
-use Rattle.pp_events_law.specs.Ready.{HasLedReady, KeysAreGiven}
+use Rattle.pp_events_law.specs.Ready.{HasLedReady, KeysAreGiven, StaysReady}
 use Rattle.pp_events_law.specs.Says.{MaySay}
 use Rattle.pp_events_law.specs.Stands.{AreReadyAt, IsAt, StandsAtEvent}
 use Rattle.pp_flow_law.specs.Tables.{none_leaves}
@@ -45,7 +45,7 @@ use Rattle.pp_world.specs.declared.happening.Happening.TheVariants.{Noted, Unrea
 use Rattle.pp_world.specs.declared.note.Remark.{Remark}
 use Rattle.pp_world.specs.declared.note.Remark.TheVariants.{Gone, Loaded}
 use Rattle.pp_events_law.proofs.Back.{chunks_are_read_back}
-use Rattle.pp_events_law.proofs.Unwritten.{handled_so, mid as unread_turn, mid_desk as unread_desk, told_none}
+use Rattle.pp_events_law.proofs.Unwritten.{handled_so, ready_so, mid as unread_turn, mid_desk as unread_desk, told_none}
 use Rattle.pp_events_law.specs.Losses.{HasLost, without_entry}
 use Rattle.pp_events_law.specs.ReadsBack.{HasRead, loaded_note}
 use Rattle.pp_events_law.specs.ToLoad.{IsOnLog, IsToLoad, StandsInEvent}
@@ -209,6 +209,9 @@ module _ (terms : List Term) (before : Log) (number : ℕ → ℕ) (id i : ℕ) 
   ready_roused : AreReady number p.cache s.next_instance p.seats.items
   ready_roused = subst (λ (d : Desk). AreReady number d.state.cache s.next_instance d.state.seats.items) (sym was) ready
 
+  keys_on : q.seats.items ≡ old.state.seats.items → KeysAreGiven old.state.seats.items y.moving.desk.state.seats.items → KeysAreGiven q.seats.items y.moving.desk.state.seats.items
+  keys_on same given = subst (λ (ss : List Seat). KeysAreGiven ss y.moving.desk.state.seats.items) (sym same) given
+
   -- ---- it was read
 
   module _ (r : HasRead number id old.peers p q x.shelf y.shelf seat x.log between s) where
@@ -268,7 +271,7 @@ module _ (terms : List Term) (before : Log) (number : ℕ → ℕ) (id i : ℕ) 
           handled = said.led.handled.handled;
         };
       };
-      ready = λ given. said.ready (subst (λ (ss : List Seat). KeysAreGiven ss y.moving.desk.state.seats.items) (sym seats_read) given);
+      ready = λ given. said.ready (keys_on seats_read given);
     }
 
   -- ---- it could not be read
@@ -295,6 +298,11 @@ module _ (terms : List Term) (before : Log) (number : ℕ → ℕ) (id i : ℕ) 
     numbers_lost : numbers_of y.moving.desk.state.seats.items ≡ numbers_of q.seats.items
     numbers_lost = says.numbers ∙ sym (ap numbers_of (seats_mid Free u same_lost law_lost at_lost r.stands.turn))
 
+    ready_lost : StaysReady number mid y u
+    ready_lost =
+        ready_so number i x y read y.shelf between says.says.count seat s u stands_lost (r.ready ready_roused) (here_mid Free u same_lost law_lost at_lost r.stands.turn) (ticked_mid Free u same_lost law_lost at_lost r.stands.turn ∙ may.still) settled_lost
+        (rouses_mid Free u same_lost law_lost at_lost r.stands.turn) may.looks (sound_turns terms s before obeys) law_lost.exchanges r.none r.anew says.says.says says.says.rest numbers_lost says.links says.top bounded
+
     was_lost : HasLostChunk number x y s
     was_lost = record {
       key = r.key;
@@ -307,6 +315,7 @@ module _ (terms : List Term) (before : Log) (number : ℕ → ℕ) (id i : ℕ) 
       handled =
           handled_so number i x y read y.shelf between says.says.count seat s u stands_lost (r.ready ready_roused) (here_mid Free u same_lost law_lost at_lost r.stands.turn) (ticked_mid Free u same_lost law_lost at_lost r.stands.turn ∙ may.still) settled_lost
           (rouses_mid Free u same_lost law_lost at_lost r.stands.turn) may.looks (sound_turns terms s before obeys) law_lost.exchanges r.none r.anew says.says.says says.says.rest numbers_lost says.links says.top bounded;
+      ready = λ given. ready_lost (keys_on (seats_mid Free u same_lost law_lost at_lost r.stands.turn) given);
     }
 
   all : HasRead number id old.peers p q x.shelf y.shelf seat x.log between s ⊎ HasLost number old.peers p q x.shelf y.shelf seat x.log between s → HasLedReady number x y s ⊎ HasLostChunk number x y s

@@ -7,7 +7,7 @@ use Rattle.pp_cache.specs.Bounds.{IsBounded}
 use Rattle.pp_clients_obey.specs.Ending.{GoesOn}
 use Rattle.pp_desk.specs.Anything.{anything}
 use Rattle.pp_events_law.specs.Hears.{AreSettled}
-use Rattle.pp_events_law.specs.Ready.{HasLedReady}
+use Rattle.pp_events_law.specs.Ready.{HasLedReady, StaysReady}
 use Rattle.pp_events_law.specs.Stands.{AreReadyAt, IsHandled, StandsAtEvent}
 use Rattle.pp_law.specs.Lists.{Bytes}
 use Rattle.pp_law.specs.State.{State, Term, Handling, WriteTo}
@@ -52,7 +52,9 @@ pub record HasLostChunk (number : ℕ → ℕ) (x y : Turning) (s : State) : Typ
   pub map : y.shelf ≡ lost key x.shelf
   pub disk : StandsOnDisk y.shelf (without_entry key s)
   pub handled : IsHandled number y.moving (without_entry key s)
+  pub ready : StaysReady number x y (without_entry key s)
 
+-- from where the write is owed
 abbrev pub LoadsLead : Type 0
 LoadsLead = (terms : List Term) (before : Log) (number : ℕ → ℕ) (id i : ℕ) (x y : Turning) (seat : Seat) (next : Next) (s : State) → x.log ≡ Some before → Obeys terms s before → StandsAtEvent number Handling (WriteTo id) x.moving s → AreReadyAt number x.moving s → MayLoad id i x y seat next s
     → (says : SaysAt i x y) → IsBounded says.says.loaded.state.cache → IsBounded y.moving.desk.state.cache → HasLedReady number x y s ⊎ HasLostChunk number x y s
