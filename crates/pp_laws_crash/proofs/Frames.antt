@@ -1,5 +1,5 @@
 -- What of a state stays as it is while rows, clients, connections and exchanges change: what the disk is about.
-use Rattle.std.proofs.Common.{◌≡◌, ◌⊎◌, refl, ℕ, Bool, true, false, List, [], ◌∷◌, Option, Some, None, Result, Ok, Err, inl, inr, ap}
+use Rattle.std.proofs.Common.{map, ◌≡◌, ◌⊎◌, refl, ℕ, Bool, true, false, List, [], ◌∷◌, Option, Some, None, Result, Ok, Err, inl, inr, ap}
 use Rattle.pp_conf.specs.Conf.{Settings}
 use Rattle.pp_framing.specs.Body.{Outcome, Done, Going, Bad}
 use Rattle.pp_valid.specs.declared.version.Version.{Version}
@@ -75,6 +75,10 @@ pub record StaysEntry (entries : List Entry) (was : Entry) : Type 0 where
 abbrev pub StayEntries : List Entry → List Entry → Type 0
 StayEntries old entries = (e : Entry) → IsIn e old → StaysEntry entries e
 
+-- but for whether it is stale
+abbrev pub unstaled : Entry → Entry
+unstaled e = record e { is_stale = false }
+
 pub record Parts (o : State) (disk : Log) (agenda : Agenda) (under_way : Option DiskOp) (closed : List Bytes) (acknowledged : List Entry) (settings : Settings) (phase : Phase) (owed : Owed) (entries : List Entry) (sent : List Sent) : Type 0 where
   pub disk_is : disk ≡ o.disk
   pub agenda_is : agenda ≡ o.agenda
@@ -87,6 +91,7 @@ pub record Parts (o : State) (disk : Log) (agenda : Agenda) (under_way : Option 
   pub owed_in : OwedIn phase owed
   pub were : WereEntries o.entries entries
   pub stay : StayEntries o.entries entries
+  pub same : map unstaled entries ≡ map unstaled o.entries
   pub grew : IsBackPart o.sent sent
 
 abbrev pub PartsOf : State → State → Type 0
@@ -118,6 +123,7 @@ kept_self s owed = kept (record {
   owed_in = owed;
   were = λ e i. were_same e s.entries i;
   stay = λ e i. stay_same e s.entries i;
+  same = refl;
   grew = ([], refl);
 })
 

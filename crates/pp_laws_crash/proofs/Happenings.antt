@@ -51,7 +51,7 @@ dialled_at n host port s AllPlaced h = h
 dialled_at n host port s (WaitsDrop k e) h = h
 dialled_at n host port s (WaitsDial e) h = put_on-kept e.number n _ (kept (parts_of h))
 
-dialled-kept : {o : State} (n : ℕ) (host : Bytes) (port : ℕ) (s : State) → Kept o s → Kept o (dialled n host port (placing s))
+pub dialled-kept : {o : State} (n : ℕ) (host : Bytes) (port : ℕ) (s : State) → Kept o s → Kept o (dialled n host port (placing s))
 unfolding dialled
 dialled-kept n host port s h = dialled_at n host port (placing s).state (placing s).pause (placing-kept s h)
 
@@ -68,11 +68,11 @@ undialled_at {o} s (WaitsDial e) h = refused_dial-kept e _ lost
     lost : Kept o (lose_attempt e (record s { failures = s.failures + 1 }))
     lost = lose_attempt-kept e _ (kept (parts_of h))
 
-undialled-kept : {o : State} (s : State) → Kept o s → Kept o (undialled (placing s))
+pub undialled-kept : {o : State} (s : State) → Kept o s → Kept o (undialled (placing s))
 unfolding undialled
 undialled-kept s h = undialled_at (placing s).state (placing s).pause (placing-kept s h)
 
-dropped-kept : {o : State} (n : ℕ) (s : State) → Kept o s → Kept o (dropped n s)
+pub dropped-kept : {o : State} (n : ℕ) (s : State) → Kept o s → Kept o (dropped n s)
 unfolding dropped
 dropped-kept n s h = each_of (conn s n) h (λ k. when k.is_closing (out-kept n s h) (out-kept n _ (placing-kept s h)))
 
@@ -82,11 +82,11 @@ leave_memory-kept ForAnother s h = kept (parts_of (come_to-kept Evicting s h))
 leave_memory-kept (ForMemory x) s h = refused_row-kept x _ (come_to-kept Evicting s h)
 leave_memory-kept (BeforeDecision x) s h = kept (parts_of (forget-kept x.id _ (come_to_decide-kept s h)))
 
-forgotten_by-kept : {o : State} (key : Bytes) (s : State) → Kept o s → Kept o (forgotten_by key s)
+pub forgotten_by-kept : {o : State} (key : Bytes) (s : State) → Kept o s → Kept o (forgotten_by key s)
 unfolding forgotten_by
 forgotten_by-kept key s h = each_of (leaving_as s key) h (λ how. leave_memory-kept how s h)
 
-load-kept : {o : State} (key : Bytes) (i : ℕ) (s : State) → Kept o s → Kept o (load key i s)
+pub load-kept : {o : State} (key : Bytes) (i : ℕ) (s : State) → Kept o s → Kept o (load key i s)
 unfolding load load_from
 load-kept key i s h = each_of (row s key) h (λ x. each_of (kept_row s key) h (λ e. note_use-kept _ (kept (parts_of h))))
 

@@ -315,6 +315,7 @@ more_sent o s part p = record {
   owed_in = p.owed_in;
   were = p.were;
   stay = p.stay;
+  same = p.same;
   grew = (part ∷ p.grew.0, ap (λ (l : List Sent). part ∷ l) p.grew.1);
 }
 

@@ -1,5 +1,5 @@
 -- Changes of rows, connections and exchanges keep what the disk is about.
-use Rattle.std.proofs.Common.{◌≡◌, refl, ℕ, nat_lt, Bool, true, false, not, ◌==◌, ◌&&◌, List, [], ◌∷◌, Option, Some, None, sym, ap, ◌∙◌, option_and_then}
+use Rattle.std.proofs.Common.{map, ◌≡◌, refl, ℕ, nat_lt, Bool, true, false, not, ◌==◌, ◌&&◌, List, [], ◌∷◌, Option, Some, None, sym, ap, ◌∙◌, option_and_then}
 use Rattle.pp_fresh.specs.declared.aging.Times.{Times}
 use Rattle.pp_peers.specs.declared.placing.Placed.TheVariants.{On, Dial, CloseThenDial, Wait}
 use Rattle.pp_peers.specs.declared.placing.Placed.{Placed}
@@ -15,7 +15,7 @@ use Rattle.pp_law.specs.Stages.{is_headed}
 use Rattle.pp_law.specs.State.{State, Course, Client, Conn, Exchange, Instance, Entry}
 use Rattle.pp_law.specs.Table.{is_entry_of, row, row_on_disk, rows, idle_row, on_instance, forget, swept, clear, mark_row, forget_row, with_room, add_row, make_row, enter}
 use Rattle.pp_laws.proofs.Lists.{From, in_map}
-use Rattle.pp_laws_crash.proofs.Frames.{Kept, PartsOf, WasEntry, StaysEntry, kept, parts_of, now_at, in_changed, when, each_of}
+use Rattle.pp_laws_crash.proofs.Frames.{Kept, PartsOf, WasEntry, StaysEntry, kept, parts_of, now_at, in_changed, unstaled, when, each_of}
 
 -- ---- rows
 
@@ -57,6 +57,14 @@ same_as : (was now : Entry) (b : Bool) → now ≡ (elim b as (λ c. Entry) [ tr
 same_as was now true eq = (ap (λ (x : Entry). x.name) eq, ap (λ (x : Entry). x.key) eq, ap (λ (x : Entry). x.version) eq, ap (λ (x : Entry). x.extent) eq)
 same_as was now false eq = (ap (λ (x : Entry). x.name) eq, ap (λ (x : Entry). x.key) eq, ap (λ (x : Entry). x.version) eq, ap (λ (x : Entry). x.extent) eq)
 
+unstaled_same : (p : Entry → Bool) (es : List Entry) → map unstaled (change p staled es) ≡ map unstaled es
+unstaled_same p [] = refl
+unstaled_same p (e ∷ es) = by (p e) (unstaled_same p es)
+  where
+    by : (b : Bool) → map unstaled (change p staled es) ≡ map unstaled es → unstaled (elim b as (λ c. Entry) [ true ↦ staled e | false ↦ e ]) ∷ map unstaled (change p staled es) ≡ unstaled e ∷ map unstaled es
+    by true rest = ap (λ (xs : List Entry). unstaled e ∷ xs) rest
+    by false rest = ap (λ (xs : List Entry). unstaled e ∷ xs) rest
+
 staled_parts : (o s : State) (key : Bytes) → PartsOf o s → PartsOf o (record s { entries = change (is_entry_of key) (λ e. record e { is_stale = true }) s.entries })
 staled_parts o s key p = record {
   disk_is = p.disk_is;
@@ -70,6 +78,7 @@ staled_parts o s key p = record {
   owed_in = p.owed_in;
   were = λ e i. were e (in_map (now_at (is_entry_of key) staled) e s.entries i);
   stay = λ e i. stay e (p.stay e i);
+  same = unstaled_same (is_entry_of key) s.entries ∙ p.same;
   grew = p.grew;
 }
   where

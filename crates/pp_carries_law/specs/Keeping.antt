@@ -1,0 +1,56 @@
+-- Before and behind the disk: where nothing is left to leave memory the turn may keep what came, and then decisions come, or at Stop all is
+-- closed (RFC 2616, section 8.1; the rest is ours).
+use Rattle.std.specs.Prelude.{◌≡◌, ℕ, true, false, length, List}
+use Rattle.pp_carries_law.specs.Carried.{IsCarried}
+use Rattle.pp_deciding_law.specs.Stands.{StandsToDecide}
+use Rattle.pp_evicting_law.specs.Evicting.{StandsBehind}
+use Rattle.pp_keeping.specs.Keeping.{Keeping as Kept, keeping}
+use Rattle.pp_keeps_law.specs.All.{IsDoneWith}
+use Rattle.pp_keeps_law.specs.Stands.{StandsToKeep}
+use Rattle.pp_law.specs.Phases.{in_phase}
+use Rattle.pp_law.specs.State.{State, Term, Deciding}
+use Rattle.pp_obeys.specs.Obeys.{Obeys}
+use Rattle.pp_proxy.specs.Events.{Keeps}
+use Rattle.pp_proxy.specs.Moving.{Moving, Turning}
+use Rattle.pp_rounds_law.specs.Settles.{StandsAtStop}
+use Rattle.pp_rounds_law.specs.Stands.{StandsInRound}
+use Rattle.pp_shelf_law.specs.AsKept.{EachIsAsKept}
+use Rattle.pp_state.specs.Numbers.{places}
+use Rattle.pp_store.specs.Kept.{KeptMap}
+use Rattle.pp_world.specs.Log.{Log}
+
+-- ---- before
+
+-- it stands there, beside a log that obeys the law: of each key there is one row (RowsStandAlone of `pp_shelf_law`), and the fields of each are
+-- those that are kept (`pp_laws_fields`)
+abbrev pub TurnsStandToKeep : Type 0
+TurnsStandToKeep = (terms : List Term) (log : Log) (number : ℕ → ℕ) (shelf : KeptMap) (x : Moving) (s : State) → Obeys terms s log → StandsBehind number x s → IsCarried shelf x s → StandsToKeep number x.desk.state shelf s
+
+-- ---- behind
+
+-- what `keep` of pp_keeping works on
+abbrev pub kept_in : Turning → Kept
+kept_in x = keeping x.moving.desk.state x.shelf x.log x.faults
+
+abbrev pub deciding : State → State
+deciding t = in_phase Deciding t
+
+-- the turn stands amid decisions, and what is carried stands too
+pub record HasBeenKept (number : ℕ → ℕ) (y : Turning) (s : State) : Type 0 where
+  pub stands : StandsToDecide number y.moving.desk.peers y.shelf y.moving.desk.state s
+  pub carried : IsCarried y.shelf y.moving s
+
+-- where KeepingsLeadOn of `pp_keeps_law` leads; the next phase is that of decisions. That the shelf has the fields that are kept of them is so
+-- behind each of its steps (AsKept of `pp_shelf_law`)
+abbrev pub KeepingsCarry : Type 0
+KeepingsCarry = (number : ℕ → ℕ) (x y : Turning) (s t : State) → StandsBehind number x.moving s → IsCarried x.shelf x.moving s → Keeps x y → IsDoneWith number (kept_in x) (kept_in y) s t → EachIsAsKept y.shelf → HasBeenKept number y (deciding t)
+
+-- ---- from there on
+
+-- before Stop
+abbrev pub TurnsDecide : Type 0
+TurnsDecide = (number : ℕ → ℕ) (y : Turning) (s : State) → HasBeenKept number y s → s.is_stopped ≡ false → StandsInRound y.shelf y.moving s
+
+-- at Stop, for which all clients are looked at (Handling.`Stops` of `pp_proxy`)
+abbrev pub TurnsStop : Type 0
+TurnsStop = (number : ℕ → ℕ) (y : Turning) (s : State) → HasBeenKept number y s → s.is_stopped ≡ true → y.moving.desk.state.awake.items ≡ places (length y.moving.desk.state.seats.items) → StandsAtStop y.shelf y.moving s

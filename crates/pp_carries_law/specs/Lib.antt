@@ -1,0 +1,4 @@
+pub mod Carried
+pub mod Keeping
+pub mod Leaving
+pub mod Serving
