@@ -5,9 +5,11 @@ use Rattle.pp_framing.specs.Body.{Outcome, Done, Going, Bad}
 use Rattle.pp_valid.specs.declared.version.Version.{Version}
 use Rattle.pp_world.specs.Log.{Log}
 use Rattle.pp_world.specs.declared.op.DiskOp.{DiskOp}
-use Rattle.pp_law.specs.Lists.{Bytes, change}
+use Rattle.std.specs.Prelude.{find, is_some}
+use Rattle.pp_law.specs.Lists.{Bytes, change, has_text}
 use Rattle.pp_law.specs.Requests.{Front, Parsed, NoHeadYet, NoHead as NoFront, IsRequest}
 use Rattle.pp_law.specs.State.{State, Phase, Before, IsWoken, IsConfigured, IsRooted, IsListed, IsListening, IsStuck, Awaiting, Handling, Evicting, Keeping, Deciding, Following, Connecting, DecidingAgain, Owed, Free, Sent, Entry, Agenda, Aim, Through, Own, Filling}
+use Rattle.pp_law.specs.Table.{is_entry_of}
 use Rattle.pp_laws.specs.Origin.{IsBackPart}
 use Rattle.pp_laws.specs.Runs.{IsIn}
 
@@ -79,7 +81,11 @@ StayEntries old entries = (e : Entry) → IsIn e old → StaysEntry entries e
 abbrev pub unstaled : Entry → Entry
 unstaled e = record e { is_stale = false }
 
-pub record Parts (o : State) (disk : Log) (agenda : Agenda) (under_way : Option DiskOp) (closed : List Bytes) (acknowledged : List Entry) (settings : Settings) (phase : Phase) (owed : Owed) (entries : List Entry) (sent : List Sent) : Type 0 where
+-- of each of these keys there is one
+abbrev pub AreThere : List Bytes → List Entry → Type 0
+AreThere keys entries = (key : Bytes) → has_text key keys ≡ true → is_some (find (is_entry_of key) entries) ≡ true
+
+pub record Parts (o : State) (disk : Log) (agenda : Agenda) (under_way : Option DiskOp) (closed : List Bytes) (acknowledged : List Entry) (settings : Settings) (phase : Phase) (owed : Owed) (entries : List Entry) (sent : List Sent) (displaced : List Bytes) : Type 0 where
   pub disk_is : disk ≡ o.disk
   pub agenda_is : agenda ≡ o.agenda
   pub under_way_is : under_way ≡ o.under_way
@@ -92,10 +98,13 @@ pub record Parts (o : State) (disk : Log) (agenda : Agenda) (under_way : Option 
   pub were : WereEntries o.entries entries
   pub stay : StayEntries o.entries entries
   pub same : map unstaled entries ≡ map unstaled o.entries
+  -- of a key whose name another took
+  pub there : AreThere o.displaced o.entries → AreThere displaced entries
+  pub more : (key : Bytes) → has_text key o.displaced ≡ true → has_text key displaced ≡ true
   pub grew : IsBackPart o.sent sent
 
 abbrev pub PartsOf : State → State → Type 0
-PartsOf o s = Parts o s.disk s.agenda s.under_way s.closed_names s.acknowledged s.settings s.phase s.owed s.entries s.sent
+PartsOf o s = Parts o s.disk s.agenda s.under_way s.closed_names s.acknowledged s.settings s.phase s.owed s.entries s.sent s.displaced
 
 -- this state is as that one was
 pub data Kept (o s : State) : Type 0 where
@@ -124,6 +133,8 @@ kept_self s owed = kept (record {
   were = λ e i. were_same e s.entries i;
   stay = λ e i. stay_same e s.entries i;
   same = refl;
+  there = λ are. are;
+  more = λ key has. has;
   grew = ([], refl);
 })
 

@@ -128,6 +128,8 @@ in_turn phase s owed recovered turns was p = record {
   were = p.were;
   stay = p.stay;
   same = p.same;
+  there = p.there;
+  more = p.more;
   grew = p.grew;
 }
 
@@ -205,6 +207,8 @@ owing-kept {o} owed n s is h = kept (record {
   were = (parts_of h).were;
   stay = (parts_of h).stay;
   same = (parts_of h).same;
+  there = (parts_of h).there;
+  more = (parts_of h).more;
   grew = (parts_of h).grew;
 })
 
@@ -227,6 +231,8 @@ paid-kept {o} s h = regained-kept _ (kept (record {
   were = (parts_of h).were;
   stay = (parts_of h).stay;
   same = (parts_of h).same;
+  there = (parts_of h).there;
+  more = (parts_of h).more;
   grew = (parts_of h).grew;
 }))
 

@@ -1,25 +1,25 @@
 -- What is none of the disk leaves what is on it.
-use Rattle.std.proofs.Common.{◌≡◌, refl, sym, ap, ◌∙◌, subst, ℕ, zero, suc, Bool, true, false, List, [], ◌∷◌, ◌++◌, length, map, inl, inr, ◌⊎◌}
-use Rattle.pp_law.specs.After.{after, changed, noted, owing}
-use Rattle.pp_law.specs.Connections.{on_client, on_conn}
-use Rattle.pp_law.specs.Phases.{behind, come_to, come_to_decide, deciding, ending, next}
-use Rattle.pp_law.specs.State.{State, Entry, Owed, Phase, Term, Before, IsWoken, IsConfigured, IsRooted, IsListed, IsListening, IsStuck, Awaiting, Handling, Evicting, Keeping, Deciding, Following, Connecting, DecidingAgain, ReadOf, WriteTo}
-use Rattle.pp_law.specs.Turn.{tick, touch}
+use Rattle.std.proofs.Common.{◌≡◌, refl, sym, ap, ◌∙◌, subst, ℕ, zero, suc, Bool, true, false, not, cond, List, [], ◌∷◌, ◌++◌, map, inl, inr, ◌⊎◌, Some}
+use Rattle.std.specs.Prelude.{find, is_some}
+use Rattle.pp_law.specs.After.{after}
+use Rattle.pp_law.specs.Lawful.{LawfulFrom}
+use Rattle.pp_law.specs.Lists.{Bytes}
+use Rattle.pp_law.specs.Permits.{IsPermitted}
+use Rattle.pp_law.specs.Phases.{behind, next}
+use Rattle.pp_law.specs.State.{State, Entry, Phase, Term, Before, IsWoken, IsConfigured, IsRooted, IsListed, IsListening, IsStuck, Awaiting, Handling, Evicting, Keeping, Deciding, Following, Connecting, DecidingAgain}
+use Rattle.pp_law.specs.Table.{is_entry_of}
 use Rattle.pp_laws.proofs.Tests.{first_holds, second_holds}
 use Rattle.pp_laws.specs.Runs.{after_all, state_after}
-use Rattle.pp_laws_crash.proofs.Frames.{Kept, OwedIn, PartsOf, kept, kept_self, parts_of, takes_turns as turns_at, recovers}
-use Rattle.pp_laws_crash.proofs.Happenings.{dialled-kept, dropped-kept, forgotten_by-kept, load-kept, undialled-kept}
-use Rattle.pp_laws_crash.proofs.KeptExchanges.{got-kept}
-use Rattle.pp_laws_crash.proofs.KeptTable.{close_client-kept}
-use Rattle.pp_laws_crash.proofs.KeptTurns.{ask-kept, come_to-kept, come_to_decide-kept, deciding-kept, end_replies-kept, ending-kept, event-kept, evicted-kept, gone-kept, hang_up-kept, hear-kept, next-kept, opened-kept, paid-kept, reached-kept, rest_with-kept, said-kept, shut-kept, take_decision-kept, tick-kept, touch-kept}
-use Rattle.pp_laws_crash.proofs.Standing.{turns_recover_not}
-use Rattle.pp_laws_pool.proofs.Along.{after_all-append}
-use Rattle.pp_laws_quiet.specs.Quiet.{AreQuiet, QuietOnesLeaveTheDisk, is_quiet, takes_turns}
-use Rattle.pp_obeys.specs.Obeys.{Obeys, phases_on}
+use Rattle.pp_laws_crash.proofs.Begins.{not_true}
+use Rattle.pp_laws_crash.proofs.Frames.{Kept, OwedIn, kept_self, parts_of, takes_turns as turns_at}
+use Rattle.pp_laws_crash.proofs.Happenings.{changed_on}
+use Rattle.pp_laws_crash.proofs.KeptTurns.{next-kept}
+use Rattle.pp_laws_crash.specs.Changes.{changes_disk}
+use Rattle.pp_laws_pool.proofs.Along.{after_all-append, back_from}
+use Rattle.pp_laws_quiet.specs.Quiet.{AreDisplaced, AreQuiet, QuietOnesLeaveTheDisk, but_for_stale, takes_turns}
+use Rattle.pp_obeys.specs.Obeys.{phases_on}
 use Rattle.pp_world.specs.Log.{Log}
 use Rattle.pp_world.specs.declared.happening.Happening.{Happening}
-use Rattle.pp_world.specs.declared.happening.Happening.TheVariants.{Woke, Waits, Clock, Opened, CanRead, CanWrite, Heard, HungUp, Said, Shut, Dialled, Undialled, Reached, Ended, Broke, Asked, Got, Dropped, NoneYet, Began, Did, Unread, Noted, Rooted, Listed, Listens, Configured, Printed, Stopped}
-use Rattle.pp_world.specs.declared.note.Remark.TheVariants.{Taken, Cut, Kept as NotedKept, Gone, Forgotten, Evicted, Loaded}
 
 -- ---- each of them
 
@@ -40,75 +40,16 @@ goes_on s t turns k = by (parts_of k).moved
     by (inl same) = ap turns_at same ∙ turns
     by (inr is) = is
 
-no_opening : (s t : State) → IsTurning s → Kept s t → recovers t.phase ≡ false
-no_opening s t turns k = turns_recover_not t.phase (goes_on s t turns k)
-
-owed_kept : {o : State} (owed : Owed) (n : ℕ) (s : State) → IsTurning s → Kept o s → Kept o (owing owed n s)
-unfolding owing touch on_conn on_client
-owed_kept {o} owed n s turns h = kept (record {
-  disk_is = (parts_of h).disk_is;
-  agenda_is = (parts_of h).agenda_is;
-  under_way_is = (parts_of h).under_way_is;
-  closed_is = (parts_of h).closed_is;
-  acknowledged_is = (parts_of h).acknowledged_is;
-  settings_is = (parts_of h).settings_is;
-  recovers_is = (parts_of h).recovers_is;
-  moved = (parts_of h).moved;
-  owed_in = λ isnt. let both : true ≡ false = sym turns ∙ isnt in absurd (cc both);
-  were = (parts_of h).were;
-  stay = (parts_of h).stay;
-  same = (parts_of h).same;
-  grew = (parts_of h).grew;
-})
-
-decides_kept : {o : State} (s : State) → IsTurning s → Kept o s → Kept o (deciding s)
-decides_kept s turns h = deciding-kept s (no_opening s (come_to_decide s) turns (come_to_decide-kept s (self s turns))) h
-
-quiet_kept : {o : State} (s : State) (h : Happening) → is_quiet h ≡ true → IsTurning s → Kept o s → Kept o (after s h)
-unfolding changed noted
-quiet_kept s (Woke image) is turns k = absurd (cc is)
-quiet_kept s (Began op) is turns k = absurd (cc is)
-quiet_kept s (Did op ok) is turns k = absurd (cc is)
-quiet_kept s (Unread name) is turns k = absurd (cc is)
-quiet_kept s (Rooted folder) is turns k = absurd (cc is)
-quiet_kept s (Listed ok) is turns k = absurd (cc is)
-quiet_kept s (Listens port ok) is turns k = absurd (cc is)
-quiet_kept s (Configured file text) is turns k = absurd (cc is)
-quiet_kept s (Noted (NotedKept key tag n extent)) is turns k = absurd (cc is)
-quiet_kept s (Noted (Gone key)) is turns k = absurd (cc is)
-quiet_kept s (Noted (Taken c i d)) is turns k = take_decision-kept c d _ (decides_kept s turns k)
-quiet_kept s (Noted (Cut c cause)) is turns k = close_client-kept c true _ (decides_kept s turns k)
-quiet_kept s (Noted (Forgotten key)) is turns k = forgotten_by-kept key s k
-quiet_kept s (Noted (Evicted key tag n i)) is turns k = evicted-kept _ (come_to-kept Evicting s k)
-quiet_kept s (Noted (Loaded key tag n i)) is turns k = load-kept key i s k
-quiet_kept s (Waits w) is turns k = rest_with-kept w _ (no_opening s (ending s) turns (ending-kept s (self s turns))) (ending-kept s k)
-quiet_kept s (Clock seconds) is turns k = event-kept _ (no_opening s (tick seconds s) turns (tick-kept seconds s (self s turns))) (tick-kept seconds s k)
-quiet_kept s (Opened n) is turns k = event-kept _ (no_opening s _ turns (opened-kept n s (self s turns))) (opened-kept n s k)
-quiet_kept s (CanRead n) is turns k = event-kept _ (no_opening s (owing (ReadOf n) n s) turns (owed_kept (ReadOf n) n s turns (self s turns))) (owed_kept (ReadOf n) n s turns k)
-quiet_kept s (CanWrite n) is turns k = event-kept _ (no_opening s (owing (WriteTo n) n s) turns (owed_kept (WriteTo n) n s turns (self s turns))) (owed_kept (WriteTo n) n s turns k)
-quiet_kept s (Heard c bytes) is turns k = paid-kept _ (hear-kept c bytes s k)
-quiet_kept s (HungUp c) is turns k = paid-kept _ (hang_up-kept c s k)
-quiet_kept s (Said c offered bytes) is turns k = paid-kept _ (said-kept c (length bytes) s k)
-quiet_kept s (Shut c) is turns k = shut-kept c _ (come_to-kept Connecting s k)
-quiet_kept s (Dialled n host port) is turns k = dialled-kept n host port _ (come_to-kept Connecting s k)
-quiet_kept s (Undialled host port) is turns k = undialled-kept _ (come_to-kept Connecting s k)
-quiet_kept s (Reached n) is turns k = event-kept _ (no_opening s _ turns (reached-kept n s (self s turns))) (reached-kept n s k)
-quiet_kept s (Ended n) is turns k = paid-kept _ (gone-kept true n s k)
-quiet_kept s (Broke n) is turns k = paid-kept _ (gone-kept false n _ (event-kept s (turns_recover_not s.phase turns) k))
-quiet_kept s (Asked n bytes) is turns k = paid-kept _ (ask-kept n (length bytes) s k)
-quiet_kept s (Got n bytes) is turns k = paid-kept _ (end_replies-kept _ (got-kept (length bytes) n bytes s k))
-quiet_kept s (Dropped n) is turns k = dropped-kept n _ (come_to-kept Connecting s k)
-quiet_kept s (NoneYet n) is turns k = paid-kept s k
-quiet_kept s (Printed text) is turns k = k
-quiet_kept s Stopped is turns k = event-kept _ (turns_recover_not s.phase turns) (kept (parts_of k))
+quiet_kept : {o : State} (s : State) (h : Happening) → changes_disk h ≡ false → IsPermitted s h → IsTurning s → Kept o s → Kept o (after s h)
+quiet_kept s h still may turns k = changed_on s (nothing_owed s turns) k h still may
 
 -- ---- one behind the other, and some phases on
 
-all_kept : {o : State} (hs : Log) (s : State) → AreQuiet hs → IsTurning s → Kept o s → Kept o (after_all s hs)
-all_kept [] s quiet turns k = k
-all_kept (h ∷ hs) s quiet turns k =
-    let first : is_quiet h ≡ true = first_holds (is_quiet h) _ quiet in
-    all_kept hs (after s h) (second_holds (is_quiet h) _ quiet) (goes_on s (after s h) turns (quiet_kept s h first turns (self s turns))) (quiet_kept s h first turns k)
+all_kept : {o : State} (hs : Log) (s : State) → AreQuiet hs → LawfulFrom s hs → IsTurning s → Kept o s → Kept o (after_all s hs)
+all_kept [] s quiet lawful turns k = k
+all_kept (h ∷ hs) s quiet lawful turns k =
+    let still : changes_disk h ≡ false = not_true (changes_disk h) (first_holds (not (changes_disk h)) _ quiet) in
+    all_kept hs (after s h) (second_holds (not (changes_disk h)) _ quiet) lawful.1 (goes_on s (after s h) turns (quiet_kept s h still lawful.0 turns (self s turns))) (quiet_kept s h still lawful.0 turns k)
 
 on_kept : {o : State} (n : ℕ) (s : State) → Kept o s → Kept o (phases_on n s)
 on_kept zero s k = k
@@ -164,12 +105,26 @@ turning s Following is turns = refl
 turning s Connecting is turns = refl
 turning s DecidingAgain is turns = refl
 
+-- ---- keys whose name another took
+
+same_entry : (key : Bytes) (es : List Entry) → is_some (find (is_entry_of key) (map but_for_stale es)) ≡ is_some (find (is_entry_of key) es)
+same_entry key [] = refl
+same_entry key (e ∷ es) = by (is_entry_of key e) (same_entry key es)
+  where
+    by : (b : Bool) → is_some (find (is_entry_of key) (map but_for_stale es)) ≡ is_some (find (is_entry_of key) es) → is_some (cond b (Some (but_for_stale e)) (find (is_entry_of key) (map but_for_stale es))) ≡ is_some (cond b (Some e) (find (is_entry_of key) es))
+    by true rest = refl
+    by false rest = rest
+
+there_before : (r s : State) → Kept r s → AreDisplaced s → AreDisplaced r
+there_before r s k are key has =
+    sym (same_entry key r.entries) ∙ ap (λ (es : List Entry). is_some (find (is_entry_of key) es)) (sym (parts_of k).same) ∙ same_entry key s.entries ∙ are key ((parts_of k).more key has)
+
 pub left : QuietOnesLeaveTheDisk
 left terms before hs s t one two turns quiet =
     let r : State = state_after terms before in
     let was : IsTurning r = was_turning one.goes.phases r s one.goes.there (turning s s.phase refl turns) in
     let first : Kept r s = subst (λ (u : State). Kept r u) one.goes.there (on_kept one.goes.phases r (self r was)) in
-    let behind : Kept r (state_after terms (before ++ hs)) = subst (λ (u : State). Kept r u) (sym (after_all-append _ before hs)) (all_kept hs r quiet was (self r was)) in
+    let behind : Kept r (state_after terms (before ++ hs)) = subst (λ (u : State). Kept r u) (sym (after_all-append _ before hs)) (all_kept hs r quiet (back_from _ before hs two.lawful) was (self r was)) in
     let then : Kept r t = subst (λ (u : State). Kept r u) two.goes.there (on_kept two.goes.phases (state_after terms (before ++ hs)) behind) in
     record {
       entries = (parts_of then).same ∙ sym (parts_of first).same;
@@ -177,4 +132,5 @@ left terms before hs s t one two turns quiet =
       under_way = (parts_of then).under_way_is ∙ sym (parts_of first).under_way_is;
       agenda = (parts_of then).agenda_is ∙ sym (parts_of first).agenda_is;
       settings = (parts_of then).settings_is ∙ sym (parts_of first).settings_is;
+      displaced = λ are. (parts_of then).there (there_before r s first are);
     }
