@@ -6,7 +6,7 @@ use Rattle.pp_law.specs.Lawful.{LawfulFrom}
 use Rattle.pp_law.specs.Lists.{Bytes}
 use Rattle.pp_law.specs.Permits.{IsPermitted}
 use Rattle.pp_law.specs.Phases.{behind, next}
-use Rattle.pp_law.specs.State.{State, Entry, Phase, Term, Before, IsWoken, IsConfigured, IsRooted, IsListed, IsListening, IsStuck, Awaiting, Handling, Evicting, Keeping, Deciding, Following, Connecting, DecidingAgain}
+use Rattle.pp_law.specs.State.{State, Entry, Phase, Before, IsWoken, IsConfigured, IsRooted, IsListed, IsListening, IsStuck, Awaiting, Handling, Evicting, Keeping, Deciding, Following, Connecting, DecidingAgain}
 use Rattle.pp_law.specs.Table.{is_entry_of}
 use Rattle.pp_laws.proofs.Tests.{first_holds, second_holds}
 use Rattle.pp_laws.specs.Runs.{after_all, state_after}

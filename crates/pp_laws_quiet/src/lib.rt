@@ -7,7 +7,8 @@
 //! To the layer above: one law, the clause of a function that does nothing. It stands over the walk of `pp_laws_crash`, and is of states that a
 //! lawful log may go on as from (`pp_obeys`), also amid a turn.
 //!
-//! Not said: which keys are displaced, as a row that is cleared may displace another's entry.
+//! More keys may be displaced by it, as a row that is cleared takes the name of another's entry; of each there is an entry still. Where the
+//! clock did not tick either, it stands as it did (`specs/Steady.antt`).
 //!
 //! Takes no memory, and does nothing when the program runs.
 #![tactic(auto)]
