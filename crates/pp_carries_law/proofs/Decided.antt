@@ -1,26 +1,28 @@
 -- Before and behind the disk: the turn stands to keep what came, and then to decide, and what is carried stands.
-use Rattle.std.proofs.Common.{◌≡◌, ◌≤◌, ◌+◌, refl, sym, subst, ap, ◌∙◌, ℕ, true, false, length, List}
-use Rattle.std.specs.Prelude.{All, slice_get, vec_capacity}
+use Rattle.std.proofs.Common.{◌≡◌, ◌≤◌, ◌<◌, ◌+◌, ◌||◌, refl, sym, subst, ap, ◌∙◌, ℕ, true, false, length, List}
+use Rattle.std.specs.List.{All}
+use Rattle.std.specs.Prelude.{slice_get, vec_capacity}
 use Rattle.pp_carries_law.proofs.Same.{IsSameDesk, set_as}
 use Rattle.pp_carries_law.specs.Carried.{IsCarried, StandsLinked}
 use Rattle.pp_carries_law.specs.Keeping.{HasBeenKept, KeepingsCarry, TurnsDecide, TurnsStandToKeep, TurnsStop, deciding, kept_in}
 use Rattle.pp_closings_law.specs.Log.{AreLinked}
-use Rattle.pp_deciding_law.specs.Stands.{StandsToDecide}
 use Rattle.pp_desk.specs.Closings.{peer_numbers}
 use Rattle.pp_desk.specs.declared.desk.Desk.{Desk}
 use Rattle.pp_evicting_law.proofs.Leaving.{steps_in}
 use Rattle.pp_evicting_law.specs.Evicting.{StandsBehind}
 use Rattle.pp_flow.specs.Changes.{Exchanges}
 use Rattle.pp_flow_law.specs.Tables.{AreGiven, none_leaves}
-use Rattle.pp_keeps_law.specs.All.{IsDoneWith}
-use Rattle.pp_kept_law.proofs.Behind.{ready_still, shown_still}
+use Rattle.pp_keeps_law.specs.All.{IsDoneWith, IsSameBody}
+use Rattle.pp_kept_law.proofs.Behind.{shown_still}
 use Rattle.pp_kept_law.proofs.MayComeIn.{may_come_in}
 use Rattle.pp_kept_law.specs.Turns.{IsBeside}
 use Rattle.pp_law.specs.Lists.{has_number}
 use Rattle.pp_law.specs.Phases.{in_phase}
-use Rattle.pp_law.specs.State.{State, Phase}
+use Rattle.pp_law.specs.Opening.{is_at, is_same_phase}
+use Rattle.pp_law.specs.State.{State, Phase, Deciding, DecidingAgain}
 use Rattle.pp_laws_fields.proofs.Laws.{turns_keep_fields}
 use Rattle.pp_links.specs.Links.{Link}
+use Rattle.pp_objects.specs.Instances.{Instance, is_there}
 use Rattle.pp_peers.specs.declared.peers.Peer.{Peer}
 use Rattle.pp_places_law.specs.Around.{AreAskable}
 use Rattle.pp_places_law.specs.Closings.{AreOpen}
@@ -32,9 +34,10 @@ use Rattle.pp_shelf_law.proofs.KeptEntries.{each_so}
 use Rattle.pp_shelf_law.specs.AsKept.{EachIsAsKept}
 use Rattle.pp_state.specs.Ends.{numbers_of, parts}
 use Rattle.pp_state.specs.declared.state.State.{State as Turn}
+use Rattle.pp_steps_law.specs.Told.{IsTold}
 use Rattle.pp_store.specs.Kept.{KeptMap}
 use Rattle.pp_turns_law.specs.Firsts.{AreAwake, IsAsleep}
-use Rattle.pp_turns_law.specs.Rows.{AreReady}
+use Rattle.pp_turns_law.specs.Rows.{AreReady, IsReady}
 use Rattle.pp_turns_law.specs.Turns.{ShowsTurn}
 
 -- ---- before
@@ -57,6 +60,22 @@ stands_to_keep terms log number shelf x s obeys behind carried = record {
 }
 
 -- ---- behind
+
+-- of each that can be decided what it follows, and what its exchange joins, is there still
+ready_still : (number : ℕ → ℕ) (p q : Turn) (next : ℕ) (seats : List Seat) → AreReady number p.cache next seats → IsSameBody p q → AreReady number q.cache next seats
+ready_still number p q next seats ready same i seat at going =
+    let one : IsReady number p.cache next seat = ready i seat at going in
+    record {
+      follows = λ a id answer source. subst (λ (is : List Instance). is_there id is ≡ true) (sym same.instances) (one.follows a id answer source);
+      key = one.key;
+      joined = λ id plain brought.
+          let told : IsTold number p.cache next id = one.joined id plain brought in
+          record {
+            given = subst (λ (n : ℕ). id.life < n) (sym same.lives) told.given;
+            made = told.made;
+            apart = λ other there. told.apart other (subst (λ (is : List Instance). is_there other is ≡ true) same.instances there);
+          };
+    }
 
 turn_in : (phase : Phase) (number : ℕ → ℕ) (peers : List Peer) (p : Turn) (s : State) → ShowsTurn number none_leaves peers p s → ShowsTurn number none_leaves peers p (in_phase phase s)
 turn_in phase number peers p s shows = record {
@@ -114,16 +133,6 @@ module _ (number : ℕ → ℕ) (x y : Turning) (s t : State) (behind : StandsBe
         record { silent = one.silent; ticked = ap (λ (d : Desk). d.state.is_ticked) desk_is ∙ one.ticked };
   }
 
-  stands : StandsToDecide number new.peers y.shelf new.state (deciding t)
-  stands = record {
-    deciding = record { at = refl; none = kept.kept.stands.rests.none };
-    turn = turn;
-    disk = may_come_in y.shelf new.state.cache (deciding t) kept.kept.stands.rests.shows kept.kept.stands.noted kept.kept.stands.names;
-    ready = ready;
-    kept = each_so y.shelf as_kept;
-    awake = awake;
-  }
-
   -- ---- what is carried
 
   same_desk : IsSameDesk old new
@@ -156,7 +165,13 @@ module _ (number : ℕ → ℕ) (x y : Turning) (s t : State) (behind : StandsBe
 
   pub has_been_kept : HasBeenKept number y (deciding t)
   has_been_kept = record {
-    stands = stands;
+    at = refl;
+    none = kept.kept.stands.rests.none;
+    turn = turn;
+    ready = ready;
+    awake = awake;
+    disk = may_come_in y.shelf new.state.cache (deciding t) kept.kept.stands.rests.shows kept.kept.stands.noted kept.kept.stands.names;
+    kept = each_so y.shelf as_kept;
     carried = record {
       disk = record {
         idle = kept.kept.stands.rests.idle;
@@ -182,15 +197,18 @@ keepings_carry number x y s t behind carried keeps kept as_kept = has_been_kept 
 
 -- ---- from there on
 
+decides_at : (s : State) → s.phase ≡ Deciding → (is_at Deciding s || is_at DecidingAgain s) ≡ true
+decides_at s at = ap (λ (p : Phase). is_same_phase Deciding p || is_same_phase DecidingAgain p) at
+
 pub decides_there : TurnsDecide
 decides_there number y s it going = record {
   number = number;
   amid = record {
-    turn = it.stands.turn;
-    ready = it.stands.ready;
-    kept = it.stands.kept;
-    awake = it.stands.awake;
-    none = it.stands.deciding.none;
+    turn = it.turn;
+    ready = it.ready;
+    kept = it.kept;
+    awake = it.awake;
+    none = it.none;
     going = going;
     limits = it.carried.set.force.limits;
     waiting = it.carried.waiting;
@@ -203,14 +221,17 @@ decides_there number y s it going = record {
     room = it.carried.set.room;
     away = it.carried.away;
   };
-  deciding = it.stands.deciding;
-  disk = it.stands.disk;
+  deciding = record { at = decides_at s it.at; none = it.none };
+  disk = it.disk;
 }
 
 pub stops_there : TurnsStop
 stops_there number y s it stopped awake = record {
-  behind = record { number = number; stands = it.stands };
-  stopped = it.stands.turn.stopped ∙ stopped;
+  behind = record {
+    number = number;
+    stands = record { deciding = record { at = decides_at s it.at; none = it.none }; turn = it.turn; disk = it.disk; ready = it.ready; kept = it.kept; awake = it.awake };
+  };
+  stopped = it.turn.stopped ∙ stopped;
   awake = awake;
   clients = it.carried.links.clients;
   origins = it.carried.links.origins;

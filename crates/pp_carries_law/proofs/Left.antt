@@ -1,6 +1,7 @@
 -- Behind an event: memory may be left, and what is carried stands behind.
 use Rattle.std.proofs.Common.{◌≡◌, ◌≤◌, ◌+◌, refl, sym, subst, ap, ◌∙◌, ℕ, length, List}
-use Rattle.std.specs.Prelude.{All, vec_capacity}
+use Rattle.std.specs.List.{All}
+use Rattle.std.specs.Prelude.{vec_capacity}
 use Rattle.pp_cache.specs.Memory.{Memory}
 use Rattle.pp_carries_law.proofs.Same.{IsSameDesk, IsSameDisk, disk_as, set_as}
 use Rattle.pp_carries_law.specs.Carried.{IsCarried, StandsLinked}
@@ -9,12 +10,11 @@ use Rattle.pp_closings_law.specs.Log.{AreLinked}
 use Rattle.pp_decides_law.proofs.GivenUp.{waiting_in_order}
 use Rattle.pp_desk.specs.Closings.{Sides, peer_numbers}
 use Rattle.pp_desk.specs.declared.desk.Desk.{Desk}
-use Rattle.pp_events_law.specs.Stands.{AreReadyAt, IsHandled}
-use Rattle.pp_evicting_law.specs.Evicting.{HasLeft, IsDoneWithEvent, KeepsElse}
+use Rattle.pp_evicting_law.specs.Evicting.{HasLeft, IsDoneWithEvent}
 use Rattle.pp_flow.specs.Changes.{Exchanges, numbers as flow_numbers}
 use Rattle.pp_flow_law.specs.Tables.{none_leaves}
 use Rattle.pp_law.specs.Replies.{regained}
-use Rattle.pp_law.specs.State.{State, Agenda}
+use Rattle.pp_law.specs.State.{State}
 use Rattle.pp_links.specs.Links.{Link}
 use Rattle.pp_peers.specs.declared.peers.Peer.{Peer}
 use Rattle.pp_places_law.proofs.Askable.{CanBeAsked}
@@ -50,7 +50,7 @@ handled_done number x s it ready = record {
 -- ---- what is carried
 
 module _ (number : ℕ → ℕ) (shelf : KeptMap) (x y : Moving) (log : Log) (h t : State) (done : IsDoneWithEvent number x h) (carried : IsCarried shelf x h) (leaves : Leaves x log y) (left : HasLeft number x y log (regained h) t) where
-  abbrev desk_is : record y.desk { state = record y.desk.state { seats = x.desk.state.seats; flow = x.desk.state.flow; cache = x.desk.state.cache; refused = x.desk.state.refused; forgotten = x.desk.state.forgotten } } ≡ x.desk
+  abbrev desk_is : record y.desk { state = record y.desk.state { seats = x.desk.state.seats; flow = x.desk.state.flow; cache = x.desk.state.cache; refused = x.desk.state.refused; is_astray = x.desk.state.is_astray; forgotten = x.desk.state.forgotten } } ≡ x.desk
   desk_is = left.turn.desk
 
   same_disk : IsSameDisk h t
@@ -84,6 +84,14 @@ module _ (number : ℕ → ℕ) (shelf : KeptMap) (x y : Moving) (log : Log) (h 
   unfolding regained
   same_top = ap (λ (s : State). s.top) left.law
 
+  same_settings : t.settings ≡ h.settings
+  unfolding regained
+  same_settings = ap (λ (s : State). s.settings) left.law
+
+  same_ticked : t.has_ticked ≡ h.has_ticked
+  unfolding regained
+  same_ticked = ap (λ (s : State). s.has_ticked) left.law
+
   linked : StandsLinked y t
   linked = record {
     clients = subst (λ (ns : List ℕ). AreOpen ns y.links) (sym left.turn.numbers) (subst (λ (ls : List Link). AreOpen (numbers_of x.desk.state.seats.items) ls) (sym left.turn.links) carried.links.clients);
@@ -116,20 +124,12 @@ module _ (number : ℕ → ℕ) (shelf : KeptMap) (x y : Moving) (log : Log) (h 
   pub carried_behind : IsCarried shelf y t
   carried_behind = record {
     disk = disk_as shelf x.desk.state y.desk.state h t same_disk (ap (λ (m : Memory). m.outdated) left.turn.cache) (ap (λ (d : Desk). d.state.has_lost_draft) desk_is) carried.disk;
-    set = set_as x.desk y.desk h t same_desk (same_settings) (same_ticked) carried.set;
+    set = set_as x.desk y.desk h t same_desk same_settings same_ticked carried.set;
     links = linked;
     waiting = asked.0;
     placed = asked.1;
     away = ap (λ (d : Desk). d.turned_away) desk_is ∙ carried.away;
   }
-    where
-      same_settings : t.settings ≡ h.settings
-      unfolding regained
-      same_settings = ap (λ (s : State). s.settings) left.law
-
-      same_ticked : t.has_ticked ≡ h.has_ticked
-      unfolding regained
-      same_ticked = ap (λ (s : State). s.has_ticked) left.law
 
 pub leavings_carry : LeavingsCarry
 leavings_carry number shelf x y log h t done carried leaves left = carried_behind number shelf x y log h t done carried leaves left

@@ -1,9 +1,10 @@
 -- Before and behind the disk: where nothing is left to leave memory the turn may keep what came, and then decisions come, or at Stop all is
 -- closed (RFC 2616, section 8.1; the rest is ours).
-use Rattle.std.specs.Prelude.{◌≡◌, ℕ, true, false, length, List}
+use Rattle.std.specs.Prelude.{◌≡◌, ℕ, true, false, length, List, None}
+use Rattle.pp_cache_law.specs.Kept.{AreAsKept}
 use Rattle.pp_carries_law.specs.Carried.{IsCarried}
-use Rattle.pp_deciding_law.specs.Stands.{StandsToDecide}
 use Rattle.pp_evicting_law.specs.Evicting.{StandsBehind}
+use Rattle.pp_flow_law.specs.Tables.{none_leaves}
 use Rattle.pp_keeping.specs.Keeping.{Keeping as Kept, keeping}
 use Rattle.pp_keeps_law.specs.All.{IsDoneWith}
 use Rattle.pp_keeps_law.specs.Stands.{StandsToKeep}
@@ -17,6 +18,9 @@ use Rattle.pp_rounds_law.specs.Stands.{StandsInRound}
 use Rattle.pp_shelf_law.specs.AsKept.{EachIsAsKept}
 use Rattle.pp_state.specs.Numbers.{places}
 use Rattle.pp_store.specs.Kept.{KeptMap}
+use Rattle.pp_turns_law.specs.Firsts.{AreAwake}
+use Rattle.pp_turns_law.specs.Rows.{AllAreKept, AreReady}
+use Rattle.pp_turns_law.specs.Turns.{ShowsTurn}
 use Rattle.pp_world.specs.Log.{Log}
 
 -- ---- before
@@ -35,9 +39,16 @@ kept_in x = keeping x.moving.desk.state x.shelf x.log x.faults
 abbrev pub deciding : State → State
 deciding t = in_phase Deciding t
 
--- the turn stands amid decisions, and what is carried stands too
+-- the turn stands where decisions come next, and what is carried stands too
 pub record HasBeenKept (number : ℕ → ℕ) (y : Turning) (s : State) : Type 0 where
-  pub stands : StandsToDecide number y.moving.desk.peers y.shelf y.moving.desk.state s
+  pub at : s.phase ≡ Deciding
+  pub none : s.made_room_for ≡ None
+  pub turn : ShowsTurn number none_leaves y.moving.desk.peers y.moving.desk.state s
+  pub ready : AreReady number y.moving.desk.state.cache s.next_instance y.moving.desk.state.seats.items
+  pub awake : AreAwake y.moving.desk.state
+  -- what is kept of each key is the law's (`pp_kept_law`), in the fields that are kept
+  pub disk : AllAreKept y.shelf y.moving.desk.state.cache s
+  pub kept : AreAsKept y.shelf
   pub carried : IsCarried y.shelf y.moving s
 
 -- where KeepingsLeadOn of `pp_keeps_law` leads; the next phase is that of decisions. That the shelf has the fields that are kept of them is so

@@ -17,9 +17,8 @@ use Rattle.pp_state.specs.declared.state.State.{State as Turn}
 use Rattle.pp_states_law.proofs.Asked.{all_as, frames, itself}
 use Rattle.pp_steps_law.specs.Told.{AreTold, EachIsTold, IsTold, IsToldBy}
 use Rattle.pp_store.specs.Kept.{KeptMap}
-use Rattle.pp_turns_law.specs.Rows.{IsReady}
 use Rattle.pp_turns_law.specs.Turns.{ShowsTurn}
-use Rattle.pp_kept_law.specs.Turns.{IsBeside, ReadyOnesAreReady, TurnsAreShown}
+use Rattle.pp_kept_law.specs.Turns.{IsBeside, TurnsAreShown}
 
 -- ---- what is told by its number is told so still
 
@@ -46,7 +45,7 @@ module _ (number : ℕ → ℕ) (l : Leaving) (peers : List Peer) (p q : Turn) (
   u = on_disk t s
 
   abbrev r : Turn
-  r = record p { cache = q.cache; has_lost_draft = q.has_lost_draft; is_astray = q.is_astray }
+  r = record p { cache = q.cache; has_lost_draft = q.has_lost_draft }
 
   table : ShowsCache number q.cache u
   table = subst (λ (v : State). ShowsCache number q.cache v) kept.rest kept.stands.cache
@@ -79,21 +78,10 @@ module _ (number : ℕ → ℕ) (l : Leaving) (peers : List Peer) (p q : Turn) (
   }
 
   turn_is : q ≡ r
-  turn_is = ap (λ (v : Turn). record v { cache = q.cache; has_lost_draft = q.has_lost_draft; is_astray = q.is_astray }) beside.rest
+  turn_is = ap (λ (v : Turn). record v { cache = q.cache; has_lost_draft = q.has_lost_draft }) beside.rest
 
   shown_behind : ShowsTurn number l peers q t
   shown_behind = subst (λ (v : State). ShowsTurn number l peers q v) (sym kept.rest) (subst (λ (v : Turn). ShowsTurn number l peers v u) (sym turn_is) shown)
 
 pub shown_still : TurnsAreShown
 shown_still number l peers p q shelf s t shows beside kept = shown_behind number l peers p q shelf s t shows beside kept
-
--- ---- and each client can be decided still
-
-pub ready_still : ReadyOnesAreReady
-ready_still number p q next seats ready same i seat at going =
-    let one : IsReady number p.cache next seat = ready i seat at going in
-    record {
-      follows = λ a id answer source. subst (λ (is : List Instance). is_there id is ≡ true) (sym same.instances) (one.follows a id answer source);
-      key = one.key;
-      joined = λ id plain brought. still_told number p.cache q.cache next same.lives same.instances id (one.joined id plain brought);
-    }

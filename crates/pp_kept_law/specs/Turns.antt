@@ -5,20 +5,14 @@ use Rattle.pp_keeps_law.specs.All.{IsSameBody}
 use Rattle.pp_keeps_law.specs.Keeps.{HasKept}
 use Rattle.pp_law.specs.State.{State}
 use Rattle.pp_peers.specs.declared.peers.Peer.{Peer}
-use Rattle.pp_seats.specs.declared.seat.Seat.{Seat}
 use Rattle.pp_state.specs.declared.state.State.{State as Turn}
 use Rattle.pp_store.specs.Kept.{KeptMap}
-use Rattle.pp_turns_law.specs.Rows.{AreReady}
 use Rattle.pp_turns_law.specs.Turns.{ShowsTurn}
 
--- what `keep` of pp_keeping leaves as it was; where a loop ended at its bound, this life went astray
+-- what `keep` of pp_keeping leaves as it was
 pub record IsBeside (p q : Turn) : Type 0 where
   pub same : IsSameBody p q
-  pub rest : record q { cache = p.cache; has_lost_draft = p.has_lost_draft; is_astray = p.is_astray } ≡ p
+  pub rest : record q { cache = p.cache; has_lost_draft = p.has_lost_draft } ≡ p
 
 abbrev pub TurnsAreShown : Type 0
 TurnsAreShown = (number : ℕ → ℕ) (l : Leaving) (peers : List Peer) (p q : Turn) (shelf : KeptMap) (s t : State) → ShowsTurn number l peers p s → IsBeside p q → HasKept number q shelf s t → ShowsTurn number l peers q t
-
--- and each client that can be decided can be behind it
-abbrev pub ReadyOnesAreReady : Type 0
-ReadyOnesAreReady = (number : ℕ → ℕ) (p q : Turn) (next : ℕ) (seats : List Seat) → AreReady number p.cache next seats → IsSameBody p q → AreReady number q.cache next seats
