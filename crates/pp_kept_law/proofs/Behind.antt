@@ -45,7 +45,7 @@ module _ (number : ℕ → ℕ) (l : Leaving) (peers : List Peer) (p q : Turn) (
   u = on_disk t s
 
   abbrev r : Turn
-  r = record p { cache = q.cache; has_lost_draft = q.has_lost_draft }
+  r = record p { cache = q.cache; has_lost_draft = q.has_lost_draft; is_astray = q.is_astray }
 
   table : ShowsCache number q.cache u
   table = subst (λ (v : State). ShowsCache number q.cache v) kept.rest kept.stands.cache
@@ -78,7 +78,7 @@ module _ (number : ℕ → ℕ) (l : Leaving) (peers : List Peer) (p q : Turn) (
   }
 
   turn_is : q ≡ r
-  turn_is = ap (λ (v : Turn). record v { cache = q.cache; has_lost_draft = q.has_lost_draft }) beside.rest
+  turn_is = ap (λ (v : Turn). record v { cache = q.cache; has_lost_draft = q.has_lost_draft; is_astray = q.is_astray }) beside.rest
 
   shown_behind : ShowsTurn number l peers q t
   shown_behind = subst (λ (v : State). ShowsTurn number l peers q v) (sym kept.rest) (subst (λ (v : Turn). ShowsTurn number l peers v u) (sym turn_is) shown)

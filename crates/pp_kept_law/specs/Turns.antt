@@ -9,10 +9,10 @@ use Rattle.pp_state.specs.declared.state.State.{State as Turn}
 use Rattle.pp_store.specs.Kept.{KeptMap}
 use Rattle.pp_turns_law.specs.Turns.{ShowsTurn}
 
--- what `keep` of pp_keeping leaves as it was
+-- what `keep` of pp_keeping leaves as it was; the law has nothing of whether this life went astray
 pub record IsBeside (p q : Turn) : Type 0 where
   pub same : IsSameBody p q
-  pub rest : record q { cache = p.cache; has_lost_draft = p.has_lost_draft } ≡ p
+  pub rest : record q { cache = p.cache; has_lost_draft = p.has_lost_draft; is_astray = p.is_astray } ≡ p
 
 abbrev pub TurnsAreShown : Type 0
 TurnsAreShown = (number : ℕ → ℕ) (l : Leaving) (peers : List Peer) (p q : Turn) (shelf : KeptMap) (s t : State) → ShowsTurn number l peers p s → IsBeside p q → HasKept number q shelf s t → ShowsTurn number l peers q t
