@@ -1,51 +1,43 @@
--- Behind an event: memory may be left, and what is carried stands behind.
-use Rattle.std.proofs.Common.{◌≡◌, ◌≤◌, ◌+◌, refl, sym, subst, ap, ◌∙◌, ℕ, length, List}
+-- Behind an event what is carried stands, once memory was left.
+use Rattle.std.proofs.Common.{◌≡◌, ◌≤◌, ◌+◌, refl, sym, subst, ap, ◌∙◌, ℕ, Bool, true, false, length, List, [], ◌∷◌}
 use Rattle.std.specs.List.{All}
 use Rattle.std.specs.Prelude.{vec_capacity}
 use Rattle.pp_cache.specs.Memory.{Memory}
 use Rattle.pp_carries_law.proofs.Same.{IsSameDesk, IsSameDisk, disk_as, set_as}
 use Rattle.pp_carries_law.specs.Carried.{IsCarried, StandsLinked}
-use Rattle.pp_carries_law.specs.Leaving.{HandledOnesAreDone, LeavingsCarry}
+use Rattle.pp_carries_law.specs.Leaving.{LeavingsCarry}
 use Rattle.pp_closings_law.specs.Log.{AreLinked}
 use Rattle.pp_decides_law.proofs.GivenUp.{waiting_in_order}
 use Rattle.pp_desk.specs.Closings.{Sides, peer_numbers}
 use Rattle.pp_desk.specs.declared.desk.Desk.{Desk}
 use Rattle.pp_evicting_law.specs.Evicting.{HasLeft, IsDoneWithEvent}
-use Rattle.pp_flow.specs.Changes.{Exchanges, numbers as flow_numbers}
+use Rattle.pp_flow.specs.Changes.{Exchanges, entry_of, numbers as flow_numbers}
 use Rattle.pp_flow_law.specs.Tables.{none_leaves}
 use Rattle.pp_law.specs.Replies.{regained}
 use Rattle.pp_law.specs.State.{State}
 use Rattle.pp_links.specs.Links.{Link}
 use Rattle.pp_peers.specs.declared.peers.Peer.{Peer}
-use Rattle.pp_places_law.proofs.Askable.{CanBeAsked}
+use Rattle.pp_places_law.proofs.Askable.{CanBeAsked, ended_can}
 use Rattle.pp_places_law.specs.Around.{AreAskable}
 use Rattle.pp_places_law.specs.Closings.{AreOpen}
 use Rattle.pp_proxy.specs.Leaving.{Leaves}
 use Rattle.pp_proxy.specs.Moving.{Moving}
-use Rattle.pp_rounds_law.proofs.Asking.{given_up_can}
-use Rattle.pp_state.specs.Ends.{AreInOrder, Parts, numbers_of, parts}
+use Rattle.pp_state.specs.Asking.{is_useless}
+use Rattle.pp_state.specs.Ends.{AreInOrder, Parts, ended, numbers_of, parts}
 use Rattle.pp_state.specs.declared.state.State.{State as Turn}
 use Rattle.pp_store.specs.Kept.{KeptMap}
 use Rattle.pp_take.specs.GivingUp.{all_given_up}
-use Rattle.pp_turns_law.specs.Rows.{AreReady}
 use Rattle.pp_world.specs.Log.{Log}
 
--- ---- memory may be left
-
-next_as : (s h : State) → s ≡ regained h → s.next_instance ≡ h.next_instance
-unfolding regained
-next_as s h is = ap (λ (t : State). t.next_instance) is
-
-pub handled_done : HandledOnesAreDone
-handled_done number x s it ready = record {
-  at = it.stands.law.at;
-  owes = it.stands.law.owes;
-  none = it.stands.law.none;
-  turn = it.stands.desk.turn;
-  apart = it.stands.desk.may.apart;
-  awake = it.stands.awake;
-  ready = subst (λ (n : ℕ). AreReady number x.desk.state.cache n x.desk.state.seats.items) (next_as s it.handled it.anew) ready;
-}
+-- asks that are given up leave the others as they can be asked
+given_up_can : (ns : List ℕ) (p : Parts) → CanBeAsked p → CanBeAsked (all_given_up ns p)
+unfolding all_given_up
+given_up_can [] p can = can
+given_up_can (n ∷ ns) p can = by (is_useless p.cache p.seats (entry_of n p.flow)) (given_up_can ns p can) (given_up_can ns (ended n p) (ended_can n p can))
+  where
+    by : (b : Bool) → CanBeAsked (all_given_up ns p) → CanBeAsked (all_given_up ns (ended n p)) → CanBeAsked (all_given_up ns (elim b as (λ t. Parts) [ true ↦ ended n p | false ↦ p ]))
+    by true kept out = out
+    by false kept out = kept
 
 -- ---- what is carried
 

@@ -1,5 +1,5 @@
-pub mod Decided
+pub mod Kept
 pub mod Left
+pub mod MayClose
+pub mod Near
 pub mod Same
-pub mod Served
-pub mod Settled

@@ -1,6 +1,7 @@
 -- What memory that may be left rests on, of what the law has.
 use Rattle.std.proofs.Common.{◌≡◌, ◌≤◌, ◌<◌, refl, sym, ap, ◌∙◌, subst, ℕ, ◌/◌, ◌^◌, zero, suc, Bool, true, false, length, map, find, is_some, List, [], ◌∷◌, Option, Some, None, inl, inr, arith}
 use Rattle.std.specs.Prelude.{IfSome, slice_get}
+use Rattle.pp_carries_law.specs.Leaving.{MemoryMayBeLeft}
 use Rattle.pp_decides_law.proofs.Filled.{closed_in_turn}
 use Rattle.pp_decides_law.proofs.FollowingOn.{has_source, is_next}
 use Rattle.pp_decides_law.specs.Regains.{AllFollow}
@@ -138,3 +139,17 @@ module _ (terms : List Term) (log : Log) (number : ℕ → ℕ) (peers : List Pe
   pub placeless : (e : Exchange) → IsIn e h.exchanges → e.asker ≡ None → e.place ≡ None → is_some (filled_of e) ≡ true
   unfolding regained
   placeless e there nobodys nowhere = ap is_some ((asks_told terms (regained h) log obeys).placeless e there nowhere nobodys).1
+
+pub memory_may : MemoryMayBeLeft
+memory_may terms log number shelf x h obeys done carried to =
+    let follow : AllFollow x.desk.state = λ i seat at going. (done.ready i seat at going).follows in
+    record {
+      forgotten = to.forgotten;
+      evicting = to.evicting;
+      floor_is = carried.set.force.floor;
+      near = near terms log number x.desk.peers x.desk.state h obeys done.turn follow;
+      exchanges = brought_near terms log number x.desk.peers x.desk.state h obeys done.turn follow;
+      clients = few_clients terms log number x.desk.peers x.desk.state h obeys done.turn follow;
+      bodies = few_bodies terms log number x.desk.peers x.desk.state h obeys done.turn follow;
+      placeless = placeless terms log number x.desk.peers x.desk.state h obeys done.turn follow;
+    }

@@ -1,6 +1,5 @@
--- Before and behind the disk: where nothing is left to leave memory the turn may keep what came, and then decisions come, or at Stop all is
--- closed (RFC 2616, section 8.1; the rest is ours).
-use Rattle.std.specs.Prelude.{◌≡◌, ℕ, true, false, length, List, None}
+-- Before and behind the disk: where nothing is left to leave memory the turn may keep what came, and then decisions come (ours).
+use Rattle.std.specs.Prelude.{◌≡◌, ℕ, List, None}
 use Rattle.pp_cache_law.specs.Kept.{AreAsKept}
 use Rattle.pp_carries_law.specs.Carried.{IsCarried}
 use Rattle.pp_evicting_law.specs.Evicting.{StandsBehind}
@@ -13,10 +12,7 @@ use Rattle.pp_law.specs.State.{State, Term, Deciding}
 use Rattle.pp_obeys.specs.Obeys.{Obeys}
 use Rattle.pp_proxy.specs.Events.{Keeps}
 use Rattle.pp_proxy.specs.Moving.{Moving, Turning}
-use Rattle.pp_rounds_law.specs.Settles.{StandsAtStop}
-use Rattle.pp_rounds_law.specs.Stands.{StandsInRound}
 use Rattle.pp_shelf_law.specs.AsKept.{EachIsAsKept}
-use Rattle.pp_state.specs.Numbers.{places}
 use Rattle.pp_store.specs.Kept.{KeptMap}
 use Rattle.pp_turns_law.specs.Firsts.{AreAwake}
 use Rattle.pp_turns_law.specs.Rows.{AllAreKept, AreReady}
@@ -55,13 +51,3 @@ pub record HasBeenKept (number : ℕ → ℕ) (y : Turning) (s : State) : Type 0
 -- behind each of its steps (AsKept of `pp_shelf_law`)
 abbrev pub KeepingsCarry : Type 0
 KeepingsCarry = (number : ℕ → ℕ) (x y : Turning) (s t : State) → StandsBehind number x.moving s → IsCarried x.shelf x.moving s → Keeps x y → IsDoneWith number (kept_in x) (kept_in y) s t → EachIsAsKept y.shelf → HasBeenKept number y (deciding t)
-
--- ---- from there on
-
--- before Stop
-abbrev pub TurnsDecide : Type 0
-TurnsDecide = (number : ℕ → ℕ) (y : Turning) (s : State) → HasBeenKept number y s → s.is_stopped ≡ false → StandsInRound y.shelf y.moving s
-
--- at Stop, for which all clients are looked at (Handling.`Stops` of `pp_proxy`)
-abbrev pub TurnsStop : Type 0
-TurnsStop = (number : ℕ → ℕ) (y : Turning) (s : State) → HasBeenKept number y s → s.is_stopped ≡ true → y.moving.desk.state.awake.items ≡ places (length y.moving.desk.state.seats.items) → StandsAtStop y.shelf y.moving s

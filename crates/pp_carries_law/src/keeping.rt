@@ -1,14 +1,8 @@
 // Before and behind the disk.
-ghost use Rattle.pp_carries_law.specs.Keeping.{KeepingsCarry, TurnsDecide, TurnsStandToKeep, TurnsStop};
+ghost use Rattle.pp_carries_law.specs.Keeping.{KeepingsCarry, TurnsStandToKeep};
 
-/// Where nothing is left to leave memory, the turn stands to keep what came.
-pub fn keepings_may_come_behind_events()
+/// Where nothing is left to leave memory, the turn stands to keep what came; behind it what is carried stands, and decisions come next.
+pub fn keepings_come_behind_what_leaves()
     ensures stands { TurnsStandToKeep }
-{}
-
-/// Behind it what is carried stands, and decisions may be taken, or at Stop all closed.
-pub fn turns_decide_behind_keepings()
     ensures carries { KeepingsCarry }
-    ensures decides { TurnsDecide }
-    ensures stops { TurnsStop }
 {}

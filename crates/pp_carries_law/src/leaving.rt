@@ -1,12 +1,8 @@
 // Behind an event.
-ghost use Rattle.pp_carries_law.specs.Leaving.{HandledOnesAreDone, LeavingsCarry};
+ghost use Rattle.pp_carries_law.specs.Leaving.{LeavingsCarry, MemoryMayBeLeft};
 
-/// Where it is handled, what leaves memory may leave.
+/// Where it is handled, what leaves memory may leave, and what is carried stands behind.
 pub fn memory_may_be_left_behind_events()
-    ensures done { HandledOnesAreDone }
-{}
-
-/// What is carried stands behind.
-pub fn what_leaves_memory_leaves_what_is_carried()
+    ensures may { MemoryMayBeLeft }
     ensures carries { LeavingsCarry }
 {}

@@ -1,10 +1,10 @@
 -- Before and behind the disk: the turn stands to keep what came, and then to decide, and what is carried stands.
-use Rattle.std.proofs.Common.{◌≡◌, ◌≤◌, ◌<◌, ◌+◌, ◌||◌, refl, sym, subst, ap, ◌∙◌, ℕ, true, false, length, List}
+use Rattle.std.proofs.Common.{◌≡◌, ◌≤◌, ◌<◌, ◌+◌, refl, sym, subst, ap, ◌∙◌, ℕ, true, length, List}
 use Rattle.std.specs.List.{All}
 use Rattle.std.specs.Prelude.{slice_get, vec_capacity}
 use Rattle.pp_carries_law.proofs.Same.{IsSameDesk, set_as}
 use Rattle.pp_carries_law.specs.Carried.{IsCarried, StandsLinked}
-use Rattle.pp_carries_law.specs.Keeping.{HasBeenKept, KeepingsCarry, TurnsDecide, TurnsStandToKeep, TurnsStop, deciding, kept_in}
+use Rattle.pp_carries_law.specs.Keeping.{HasBeenKept, KeepingsCarry, TurnsStandToKeep, deciding, kept_in}
 use Rattle.pp_closings_law.specs.Log.{AreLinked}
 use Rattle.pp_desk.specs.Closings.{peer_numbers}
 use Rattle.pp_desk.specs.declared.desk.Desk.{Desk}
@@ -18,8 +18,7 @@ use Rattle.pp_kept_law.proofs.MayComeIn.{may_come_in}
 use Rattle.pp_kept_law.specs.Turns.{IsBeside}
 use Rattle.pp_law.specs.Lists.{has_number}
 use Rattle.pp_law.specs.Phases.{in_phase}
-use Rattle.pp_law.specs.Opening.{is_at, is_same_phase}
-use Rattle.pp_law.specs.State.{State, Phase, Deciding, DecidingAgain}
+use Rattle.pp_law.specs.State.{State, Phase}
 use Rattle.pp_laws_fields.proofs.Laws.{turns_keep_fields}
 use Rattle.pp_links.specs.Links.{Link}
 use Rattle.pp_objects.specs.Instances.{Instance, is_there}
@@ -194,46 +193,3 @@ module _ (number : ℕ → ℕ) (x y : Turning) (s t : State) (behind : StandsBe
 
 pub keepings_carry : KeepingsCarry
 keepings_carry number x y s t behind carried keeps kept as_kept = has_been_kept number x y s t behind carried keeps kept as_kept
-
--- ---- from there on
-
-decides_at : (s : State) → s.phase ≡ Deciding → (is_at Deciding s || is_at DecidingAgain s) ≡ true
-decides_at s at = ap (λ (p : Phase). is_same_phase Deciding p || is_same_phase DecidingAgain p) at
-
-pub decides_there : TurnsDecide
-decides_there number y s it going = record {
-  number = number;
-  amid = record {
-    turn = it.turn;
-    ready = it.ready;
-    kept = it.kept;
-    awake = it.awake;
-    none = it.none;
-    going = going;
-    limits = it.carried.set.force.limits;
-    waiting = it.carried.waiting;
-    placed = it.carried.placed;
-    linked = it.carried.links.origins;
-    seated = it.carried.links.clients;
-    given = it.carried.links.given;
-    few = it.carried.links.few;
-    top = it.carried.links.top;
-    room = it.carried.set.room;
-    away = it.carried.away;
-  };
-  deciding = record { at = decides_at s it.at; none = it.none };
-  disk = it.disk;
-}
-
-pub stops_there : TurnsStop
-stops_there number y s it stopped awake = record {
-  behind = record {
-    number = number;
-    stands = record { deciding = record { at = decides_at s it.at; none = it.none }; turn = it.turn; disk = it.disk; ready = it.ready; kept = it.kept; awake = it.awake };
-  };
-  stopped = it.turn.stopped ∙ stopped;
-  awake = awake;
-  clients = it.carried.links.clients;
-  origins = it.carried.links.origins;
-  away = it.carried.away;
-}

@@ -1,6 +1,6 @@
 -- Where decisions and rounds end, the turn may wait.
 use Rattle.std.proofs.Common.{◌≡◌, sym, ap, ◌∙◌}
-use Rattle.pp_carries_law.specs.Serving.{ServedOnesMayWait}
+use Rattle.pp_joints_law.specs.Serving.{ServedOnesMayWait}
 use Rattle.pp_obeys.proofs.Frames.{Frame}
 use Rattle.pp_obeys.proofs.StaysTurns.{ending-frame}
 

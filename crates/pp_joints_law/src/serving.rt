@@ -1,5 +1,5 @@
 // To the wait.
-ghost use Rattle.pp_carries_law.specs.Serving.{ServedOnesMayWait, SettlesKeepWhatIsSet};
+ghost use Rattle.pp_joints_law.specs.Serving.{ServedOnesMayWait, SettlesKeepWhatIsSet};
 
 /// Where decisions and rounds end, the turn may wait, by wants that the law permits.
 pub fn turns_may_wait_behind_rounds()

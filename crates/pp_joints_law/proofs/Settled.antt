@@ -1,6 +1,6 @@
 -- From the first decision of a turn to its end clients, exchanges, what is in memory and connections alone change, and who is looked at.
 use Rattle.std.proofs.Common.{◌≡◌, ◌⊎◌, inl, inr, refl, sym, subst, ap, ◌∙◌, ℕ, zero, suc, Bool, true, false, List, [], ◌∷◌, ◌++◌, Option, Some, None}
-use Rattle.pp_carries_law.specs.Serving.{IsButForWork, SettlesKeepWhatIsSet}
+use Rattle.pp_joints_law.specs.Serving.{IsButForWork, SettlesKeepWhatIsSet}
 use Rattle.pp_desk.specs.Closings.{KeepsDesk}
 use Rattle.pp_desk.specs.declared.desk.Desk.{Desk}
 use Rattle.pp_due.specs.Due.{due_at}

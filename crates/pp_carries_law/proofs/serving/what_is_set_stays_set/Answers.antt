@@ -1,5 +1,0 @@
-use Rattle.pp_carries_law.proofs.Settled.{settles_work}
-use Rattle.pp_carries_law.proofs.serving.what_is_set_stays_set.Goals as goal
-
-pub returns : goal.returns
-returns c = record { set = settles_work }
