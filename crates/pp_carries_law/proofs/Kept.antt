@@ -26,7 +26,7 @@ use Rattle.pp_peers.specs.declared.peers.Peer.{Peer}
 use Rattle.pp_places_law.specs.Around.{AreAskable}
 use Rattle.pp_places_law.specs.Closings.{AreOpen}
 use Rattle.pp_proxy.specs.Events.{Keeps}
-use Rattle.pp_proxy.specs.Moving.{Moving, Turning}
+use Rattle.pp_proxy.specs.Moving.{Turning}
 use Rattle.pp_seats.specs.declared.seat.Seat.{Seat}
 use Rattle.pp_shelf_law.proofs.Finding.{stand_alone}
 use Rattle.pp_shelf_law.proofs.KeptEntries.{each_so}
@@ -34,7 +34,6 @@ use Rattle.pp_shelf_law.specs.AsKept.{EachIsAsKept}
 use Rattle.pp_state.specs.Ends.{numbers_of, parts}
 use Rattle.pp_state.specs.declared.state.State.{State as Turn}
 use Rattle.pp_steps_law.specs.Told.{IsTold}
-use Rattle.pp_store.specs.Kept.{KeptMap}
 use Rattle.pp_turns_law.specs.Firsts.{AreAwake, IsAsleep}
 use Rattle.pp_turns_law.specs.Rows.{AreReady, IsReady}
 use Rattle.pp_turns_law.specs.Turns.{ShowsTurn}

@@ -1,5 +1,5 @@
 -- Behind an event what is carried stands, once memory was left.
-use Rattle.std.proofs.Common.{◌≡◌, ◌≤◌, ◌+◌, refl, sym, subst, ap, ◌∙◌, ℕ, Bool, true, false, length, List, [], ◌∷◌}
+use Rattle.std.proofs.Common.{◌≡◌, ◌≤◌, ◌+◌, sym, subst, ap, ◌∙◌, ℕ, Bool, true, false, length, List, [], ◌∷◌}
 use Rattle.std.specs.List.{All}
 use Rattle.std.specs.Prelude.{vec_capacity}
 use Rattle.pp_cache.specs.Memory.{Memory}

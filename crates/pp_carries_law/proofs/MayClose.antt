@@ -1,17 +1,16 @@
 -- Closings may come.
-use Rattle.std.proofs.Common.{◌≡◌, ◌≤◌, refl, sym, ap, ◌∙◌, subst, ℕ, Bool, true, false, ◌==◌, find, length, List, [], ◌∷◌, Some, inl, inr, arith}
+use Rattle.std.proofs.Common.{◌≡◌, ◌≤◌, refl, sym, ◌∙◌, subst, ℕ, false, find, length, List, [], ◌∷◌, Some, inl, inr, arith}
 use Rattle.pp_carries_law.specs.Closing.{ClosingsMayCome, NoneIsRefused}
 use Rattle.pp_closings_law.specs.Sides.{AreOrderly, IsOrderly}
-use Rattle.pp_law.specs.Connections.{client, exchange, is_client, is_exchange}
+use Rattle.pp_law.specs.Connections.{exchange, is_client, is_exchange}
 use Rattle.pp_law.specs.State.{State, Client, Conn, Exchange, Term}
 use Rattle.pp_laws.proofs.Lists.{in_find}
 use Rattle.pp_laws.specs.Runs.{IsIn}
 use Rattle.pp_laws_coming.proofs.Laws.{asks_told}
-use Rattle.pp_laws_coming.specs.Coming.{IsTold, IsToldOn}
+use Rattle.pp_laws_coming.specs.Coming.{IsToldOn}
 use Rattle.pp_laws_turn.proofs.Laws.{sound_turns}
 use Rattle.pp_laws_turn.specs.SoundTurn.{HasAsker, IsSoundTurn}
 use Rattle.pp_obeys.specs.Obeys.{Obeys}
-use Rattle.pp_seats_law.specs.Fates.{is_refused}
 use Rattle.pp_steps_law.specs.Charges.{GoesOn}
 use Rattle.pp_steps_law.specs.Lines.{AllGo}
 use Rattle.pp_steps_law.specs.Losses.{IsComing}

@@ -14,7 +14,7 @@ use Rattle.pp_law.specs.Connections.{anew, is_exchange}
 use Rattle.pp_law.specs.Lists.{is_some_with}
 use Rattle.pp_law.specs.Replies.{regained, regained_by}
 use Rattle.pp_law.specs.Stages.{bound_of, filled_of}
-use Rattle.pp_law.specs.State.{State, Bound, Client, Exchange, Instance, Term}
+use Rattle.pp_law.specs.State.{State, Bound, Client, Exchange, Term}
 use Rattle.pp_law.specs.Table.{Next, is_instance, is_next_held, next_of as next_by_law}
 use Rattle.pp_laws.proofs.Lists.{in_find}
 use Rattle.pp_laws.specs.Runs.{IsIn}

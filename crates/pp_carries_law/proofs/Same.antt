@@ -1,5 +1,5 @@
 -- What of the law's state the disk and the settings rest on: where that is the same, they stand as before.
-use Rattle.std.proofs.Common.{◌≡◌, ◌≤◌, refl, sym, subst, ap, ap₂, ◌∙◌, ℕ, Bool, true, false, find, is_some, length, List, [], Option}
+use Rattle.std.proofs.Common.{◌≡◌, ◌≤◌, sym, subst, ap, ap₂, ◌∙◌, ℕ, find, is_some, length, List}
 use Rattle.std.specs.List.{list_any}
 use Rattle.std.specs.Prelude.{vec_capacity}
 use Rattle.pp_cache_law.specs.Outdated.{AreNoted}
@@ -10,7 +10,7 @@ use Rattle.pp_keeps_law.specs.Stands.{DisplacedOnesAreThere, HasOpenNames}
 use Rattle.pp_law.specs.Chunks.{floor, trigger}
 use Rattle.pp_law.specs.Connections.{limits}
 use Rattle.pp_law.specs.Lists.{Bytes, has_text}
-use Rattle.pp_law.specs.State.{State, Agenda, DiskOp, Entry}
+use Rattle.pp_law.specs.State.{State, Agenda, Entry}
 use Rattle.pp_law.specs.Store.{run_len}
 use Rattle.pp_law.specs.Table.{is_entry_of}
 use Rattle.pp_shelf_law.specs.Shelf.{AreKept, ShowsShelf}
@@ -34,7 +34,7 @@ noted_as : (names : List Bytes) (s t : State) → IsSameDisk s t → AreNoted na
 noted_as names s t same noted = subst (λ (es : List Entry). AreNoted names t.displaced es) (sym same.entries) (subst (λ (ks : List Bytes). AreNoted names ks s.entries) (sym same.displaced) noted)
 
 open_as : (s t : State) → IsSameDisk s t → HasOpenNames s → HasOpenNames t
-open_as s t same open = ap₂ (λ (es : List Entry) (ns : List Bytes). list_any (λ e. has_text e.name ns) es) same.entries same.closed ∙ open
+open_as s t same unshut = ap₂ (λ (es : List Entry) (ns : List Bytes). list_any (λ e. has_text e.name ns) es) same.entries same.closed ∙ unshut
 
 displaced_as : (s t : State) → IsSameDisk s t → DisplacedOnesAreThere s → DisplacedOnesAreThere t
 displaced_as s t same there key has =

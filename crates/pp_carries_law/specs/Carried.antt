@@ -1,7 +1,7 @@
 -- What a turn carries from wait to wait, beside what each of its pieces shows of the law's state: what is kept on the disk, what is set for
 -- the life, which connections are open, and that each exchange can be asked (RFC 2616, section 8.1; the rest is ours).
 use Rattle.std.specs.List.{All}
-use Rattle.std.specs.Prelude.{◌≡◌, ◌≤◌, ◌+◌, ℕ, [], length, vec_capacity, None}
+use Rattle.std.specs.Prelude.{◌≡◌, ◌≤◌, ◌+◌, [], length, vec_capacity, None}
 use Rattle.pp_cache_law.specs.Outdated.{AreNoted}
 use Rattle.pp_closings_law.specs.Log.{AreLinked}
 use Rattle.pp_desk.specs.Closings.{peer_numbers}
