@@ -1,5 +1,5 @@
 -- Where decisions and rounds end, the turn may wait.
-use Rattle.std.proofs.Common.{◌≡◌, sym, ap, ◌∙◌}
+use Rattle.std.proofs.Common.{sym, ap, ◌∙◌, false}
 use Rattle.pp_joints_law.specs.Serving.{ServedOnesMayWait}
 use Rattle.pp_obeys.proofs.Frames.{Frame}
 use Rattle.pp_obeys.proofs.StaysTurns.{ending-frame}

@@ -1,5 +1,5 @@
 -- From the first decision of a turn to its end clients, exchanges, what is in memory and connections alone change, and who is looked at.
-use Rattle.std.proofs.Common.{◌≡◌, ◌⊎◌, inl, inr, refl, sym, subst, ap, ◌∙◌, ℕ, zero, suc, Bool, true, false, List, [], ◌∷◌, ◌++◌, Option, Some, None}
+use Rattle.std.proofs.Common.{◌≡◌, inl, inr, refl, sym, subst, ap, ◌∙◌, ℕ, zero, suc, Bool, true, false, List, [], ◌∷◌, ◌++◌, Option, Some, None}
 use Rattle.pp_joints_law.specs.Serving.{IsButForWork, SettlesKeepWhatIsSet}
 use Rattle.pp_desk.specs.Closings.{KeepsDesk}
 use Rattle.pp_desk.specs.declared.desk.Desk.{Desk}
@@ -9,7 +9,7 @@ use Rattle.pp_proxy.specs.Closing.{ClosesOver}
 use Rattle.pp_proxy.specs.Deciding.{Decides, DecidesAll, TakesOne}
 use Rattle.pp_proxy.specs.Moving.{Moving, with_desk, with_state}
 use Rattle.pp_proxy.specs.Rounds.{BeginsAll, GoRounds, GoesRound, Serves}
-use Rattle.pp_proxy.specs.Settling.{GoesOn, Settles}
+use Rattle.pp_proxy.specs.Settling.{GoesOn}
 use Rattle.pp_rounds_law.proofs.Begun.{all_begun}
 use Rattle.pp_seats.specs.declared.due.Due.{Due}
 use Rattle.pp_state.specs.Astray.{gone_astray_where}
@@ -66,21 +66,21 @@ due_work shelf i p q due it = by (is_due_at shelf i p) it
 first_work : (shelf : KeptMap) (places : List ℕ) (p q : Turn) (found : Option (ℕ × Due)) → FirstDue shelf places p q found → IsFoundAs p q
 unfolding FirstDue
 first_work shelf [] p q found it = found_same p q it.0
-first_work shelf (i ∷ places) p q found it = by it.1 it.3
+first_work shelf (i ∷ places) p q found it = by it.1 it.3 (λ rest. first_work shelf places it.0 q found rest)
   where
     here : IsFoundAs p it.0
     here = due_work shelf i p it.0 it.1 it.2
 
-    by : (o : Option Due) → (elim o as (λ c. Type 0) [ Some d ↦ (q ≡ it.0) × (found ≡ Some (i, d)) | None ↦ FirstDue shelf places it.0 q found ]) → IsFoundAs p q
-    by (Some d) same = subst (λ (t : Turn). IsFoundAs p t) (sym same.0) here
-    by None rest = found_then p it.0 q here (first_work shelf places it.0 q found rest)
+    by : (o : Option Due) → (elim o as (λ c. Type 0) [ Some d ↦ (q ≡ it.0) × (found ≡ Some (i, d)) | None ↦ FirstDue shelf places it.0 q found ]) → (FirstDue shelf places it.0 q found → IsFoundAs it.0 q) → IsFoundAs p q
+    by (Some d) same later = subst (λ (t : Turn). IsFoundAs p t) (sym same.0) here
+    by None rest later = found_then p it.0 q here (later rest)
 
 -- ---- decisions
 
 decided_work : (more : ℕ) (shelf : KeptMap) (x y : Moving) (log : Log) (any : Bool) → Decides more shelf x log y any → IsButForWork x.desk y.desk
 unfolding Decides
 decided_work zero shelf x y log any it = ap (λ (m : Moving). like x.desk m.desk) it.1
-decided_work (suc more) shelf x y log any it = by it.1 it.3
+decided_work (suc more) shelf x y log any it = by it.1 it.3 (λ next rest later decides. decided_work more shelf next y rest later decides)
   where
     here : IsButForWork x.desk (with_state it.0 x).desk
     here = state_work x.desk it.0 (first_work shelf x.desk.state.awake.items x.desk.state it.0 it.1 it.2)
@@ -88,11 +88,11 @@ decided_work (suc more) shelf x y log any it = by it.1 it.3
     by : (o : Option (ℕ × Due)) → (elim o as (λ c. Type 0) [
       | None ↦ (log ≡ []) × (y ≡ with_state it.0 x) × (any ≡ false)
       | Some d ↦ (next : Moving) × (first : Log) × (rest : Log) × (later : Bool) × (log ≡ first ++ rest) × TakesOne d.0 d.1 (with_state it.0 x) first next × Decides more shelf next rest y later × (any ≡ true)
-    ]) → IsButForWork x.desk y.desk
-    by None same = subst (λ (m : Moving). IsButForWork x.desk m.desk) (sym same.1) here
-    by (Some d) taken =
+    ]) → ((next : Moving) (rest : Log) (later : Bool) → Decides more shelf next rest y later → IsButForWork next.desk y.desk) → IsButForWork x.desk y.desk
+    by None same behind = subst (λ (m : Moving). IsButForWork x.desk m.desk) (sym same.1) here
+    by (Some d) taken behind =
         work_then x.desk (with_state it.0 x).desk y.desk here
-        (work_then (with_state it.0 x).desk taken.0.desk y.desk (kept_work (with_state it.0 x).desk taken.0.desk taken.5.rest) (decided_work more shelf taken.0 y taken.2 taken.3 taken.6))
+        (work_then (with_state it.0 x).desk taken.0.desk y.desk (kept_work (with_state it.0 x).desk taken.0.desk taken.5.rest) (behind taken.0 taken.2 taken.3 taken.6))
 
 all_decided_work : (shelf : KeptMap) (x y : Moving) (log : Log) (any : Bool) → DecidesAll shelf x log y any → IsButForWork x.desk y.desk
 all_decided_work shelf x y log any it =
