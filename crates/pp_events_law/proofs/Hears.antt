@@ -12,7 +12,7 @@ use Rattle.pp_desk.specs.Closings.{Sides, sides}
 use Rattle.pp_desk.specs.declared.desk.Desk.{Desk}
 use Rattle.pp_flow_law.specs.Tables.{none_leaves}
 use Rattle.pp_law.specs.After.{paid}
-use Rattle.pp_law.specs.Connections.{client, on_client}
+use Rattle.pp_law.specs.Connections.{on_client}
 use Rattle.pp_law.specs.Hearing.{heard_by}
 use Rattle.pp_law.specs.Lists.{Bytes}
 use Rattle.pp_law.specs.Replies.{end_replies}
