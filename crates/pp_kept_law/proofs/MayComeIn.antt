@@ -31,7 +31,7 @@ as_shown k e shows = record {
   extent = shows.extent;
 }
 
-none_shut : (closed : List Bytes) (es : List Entry) → list_any (is_shut closed) es ≡ false → without (is_shut closed) es ≡ es
+pub none_shut : (closed : List Bytes) (es : List Entry) → list_any (is_shut closed) es ≡ false → without (is_shut closed) es ≡ es
 none_shut closed [] none = refl
 none_shut closed (e ∷ es) none = by (is_shut closed e) none (none_shut closed es)
   where

@@ -18,3 +18,7 @@ KeptOnesMayComeIn = (shelf : KeptMap) (m : Memory) (s : State) → ShowsShelf sh
 -- and so of each of which no row is in memory
 abbrev pub KeptAloneMayComeIn : Type 0
 KeptAloneMayComeIn = OfTables (λ number m s. (shelf : KeptMap) → AllAreKept shelf m s → ShowsKept shelf m s)
+
+-- and the other way round: which stand no more is noted, where what may come in is the law's
+abbrev pub KeptOnesAreNoted : Type 0
+KeptOnesAreNoted = (shelf : KeptMap) (m : Memory) (s : State) → ShowsShelf shelf s → list_any (λ e. is_closed s e.name) s.entries ≡ false → AllAreKept shelf m s → AreNoted m.outdated s.displaced s.entries

@@ -13,5 +13,5 @@
 mod coming; // what may come in
 mod staying; // a turn behind its keeping
 
-pub use coming::what_is_kept_may_come_in;
+pub use coming::{what_is_kept_may_come_in, what_stands_no_more_is_noted};
 pub use staying::turns_are_shown_behind_keepings;

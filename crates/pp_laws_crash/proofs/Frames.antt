@@ -1,13 +1,15 @@
 -- What of a state stays as it is while rows, clients, connections and exchanges change: what the disk is about.
-use Rattle.std.proofs.Common.{◌≡◌, ◌⊎◌, refl, ℕ, Bool, true, false, List, [], ◌∷◌, Option, Some, None, Result, Ok, Err, inl, inr, ap}
+use Rattle.std.proofs.Common.{map, ◌≡◌, ◌⊎◌, refl, ℕ, Bool, true, false, List, [], ◌∷◌, Option, Some, None, Result, Ok, Err, inl, inr, ap}
 use Rattle.pp_conf.specs.Conf.{Settings}
 use Rattle.pp_framing.specs.Body.{Outcome, Done, Going, Bad}
 use Rattle.pp_valid.specs.declared.version.Version.{Version}
 use Rattle.pp_world.specs.Log.{Log}
 use Rattle.pp_world.specs.declared.op.DiskOp.{DiskOp}
-use Rattle.pp_law.specs.Lists.{Bytes, change}
+use Rattle.std.specs.Prelude.{find, is_some}
+use Rattle.pp_law.specs.Lists.{Bytes, change, has_text}
 use Rattle.pp_law.specs.Requests.{Front, Parsed, NoHeadYet, NoHead as NoFront, IsRequest}
 use Rattle.pp_law.specs.State.{State, Phase, Before, IsWoken, IsConfigured, IsRooted, IsListed, IsListening, IsStuck, Awaiting, Handling, Evicting, Keeping, Deciding, Following, Connecting, DecidingAgain, Owed, Free, Sent, Entry, Agenda, Aim, Through, Own, Filling}
+use Rattle.pp_law.specs.Table.{is_entry_of}
 use Rattle.pp_laws.specs.Origin.{IsBackPart}
 use Rattle.pp_laws.specs.Runs.{IsIn}
 
@@ -75,7 +77,15 @@ pub record StaysEntry (entries : List Entry) (was : Entry) : Type 0 where
 abbrev pub StayEntries : List Entry → List Entry → Type 0
 StayEntries old entries = (e : Entry) → IsIn e old → StaysEntry entries e
 
-pub record Parts (o : State) (disk : Log) (agenda : Agenda) (under_way : Option DiskOp) (closed : List Bytes) (acknowledged : List Entry) (settings : Settings) (phase : Phase) (owed : Owed) (entries : List Entry) (sent : List Sent) : Type 0 where
+-- but for whether it is stale
+abbrev pub unstaled : Entry → Entry
+unstaled e = record e { is_stale = false }
+
+-- of each of these keys there is one
+abbrev pub AreThere : List Bytes → List Entry → Type 0
+AreThere keys entries = (key : Bytes) → has_text key keys ≡ true → is_some (find (is_entry_of key) entries) ≡ true
+
+pub record Parts (o : State) (disk : Log) (agenda : Agenda) (under_way : Option DiskOp) (closed : List Bytes) (acknowledged : List Entry) (settings : Settings) (phase : Phase) (owed : Owed) (entries : List Entry) (sent : List Sent) (displaced : List Bytes) : Type 0 where
   pub disk_is : disk ≡ o.disk
   pub agenda_is : agenda ≡ o.agenda
   pub under_way_is : under_way ≡ o.under_way
@@ -87,10 +97,14 @@ pub record Parts (o : State) (disk : Log) (agenda : Agenda) (under_way : Option 
   pub owed_in : OwedIn phase owed
   pub were : WereEntries o.entries entries
   pub stay : StayEntries o.entries entries
+  pub same : map unstaled entries ≡ map unstaled o.entries
+  -- of a key whose name another took
+  pub there : AreThere o.displaced o.entries → AreThere displaced entries
+  pub more : (key : Bytes) → has_text key o.displaced ≡ true → has_text key displaced ≡ true
   pub grew : IsBackPart o.sent sent
 
 abbrev pub PartsOf : State → State → Type 0
-PartsOf o s = Parts o s.disk s.agenda s.under_way s.closed_names s.acknowledged s.settings s.phase s.owed s.entries s.sent
+PartsOf o s = Parts o s.disk s.agenda s.under_way s.closed_names s.acknowledged s.settings s.phase s.owed s.entries s.sent s.displaced
 
 -- this state is as that one was
 pub data Kept (o s : State) : Type 0 where
@@ -118,6 +132,9 @@ kept_self s owed = kept (record {
   owed_in = owed;
   were = λ e i. were_same e s.entries i;
   stay = λ e i. stay_same e s.entries i;
+  same = refl;
+  there = λ are. are;
+  more = λ key has. has;
   grew = ([], refl);
 })
 

@@ -20,17 +20,18 @@ use Rattle.pp_law.specs.Asking.{is_reading, is_writing}
 use Rattle.pp_law.specs.Deciding.{is_for_memory}
 use Rattle.pp_law.specs.Entries.{entries_in}
 use Rattle.pp_law.specs.Opening.{are_texts, begun, configured, is_at, is_opening, is_recovered, is_same_phase, may_fail, names_file, opened_to, permits_configured, permits_image, permits_listens, permits_woke, settings_in, stuck, with_settings, woken}
-use Rattle.pp_law.specs.Permits.{is_permitted, IsPermitted, permits, permits_behind_forgotten, permits_began, permits_broke, permits_noted, permits_taken, permits_dial, has_conn, may_cut, may_take, may_wait}
+use Rattle.pp_law.specs.Permits.{is_permitted, IsPermitted, permits, permits_behind_forgotten, permits_began, permits_broke, permits_noted, permits_taken, has_conn, may_cut, may_take, may_wait}
 use Rattle.pp_law.specs.Phases.{come_to, come_to_decide, decides, is_awaiting, may_decide, may_end, may_in}
 use Rattle.pp_law.specs.Repairs.{begin_in_opening, has_stray_gates, may_begin_in_opening}
 use Rattle.pp_law.specs.State.{State, no_agenda, Exchange, Phase, Before, Awaiting, Deciding, DecidingAgain, Following, Handling, Evicting, Keeping, Connecting, IsWoken, IsConfigured, IsRooted, IsStuck, IsListening, IsListed, Free, ReadOf, WriteTo}
 use Rattle.pp_law.specs.Store.{begin_in_turn, load, load_from, may_begin_in_turn, may_end_op}
 use Rattle.pp_law.specs.Table.{kept_row, row}
+pub use Rattle.pp_laws_crash.specs.Changes.{changes_disk}
 use Rattle.pp_laws_crash.proofs.Frames.{Kept, OwedIn, kept, kept_self, parts_of, recovers, takes_turns, when, each_of}
 use Rattle.pp_laws_crash.proofs.KeptTable.{close_client-kept, end_exchange-kept, forget-kept, lose_attempt-kept, note_use-kept, placing-kept, put_on-kept}
 use Rattle.pp_laws_crash.proofs.KeptExchanges.{fill-kept, got-kept}
-use Rattle.pp_laws_crash.proofs.KeptTurns.{ask-kept, come_to-kept, come_to_decide-kept, deciding-kept, end_replies-kept, ending-kept, event-kept, evicted-kept, gone-kept, hang_up-kept, hear-kept, in_phase-kept, opened-kept, out-kept, owing-kept, paid-kept, reached-kept, refused_row-kept, rest_with-kept, said-kept, shut-kept, take_decision-kept, tick-kept}
-use Rattle.pp_laws_crash.proofs.Standing.{at_Awaiting, at_IsListening, at_DecidingAgain, at_Deciding, at_Keeping, at_Connecting, at_IsListed, at_IsWoken, at_IsConfigured, at_IsRooted, opening_still, turns_recover_not}
+use Rattle.pp_laws_crash.proofs.KeptTurns.{ask-kept, come_to-kept, come_to_decide-kept, deciding-kept, end_replies-kept, ending-kept, event-kept, evicted-kept, gone-kept, hang_up-kept, hear-kept, opened-kept, out-kept, owing-kept, paid-kept, reached-kept, refused_row-kept, rest_with-kept, said-kept, shut-kept, take_decision-kept, tick-kept}
+use Rattle.pp_laws_crash.proofs.Standing.{at_Awaiting, at_IsListening, at_DecidingAgain, at_Deciding, at_Keeping, at_IsListed, at_IsWoken, at_IsConfigured, at_IsRooted, opening_still, turns_recover_not}
 use Rattle.pp_laws_crash.proofs.Begins.{not_true}
 use Rattle.pp_laws_crash.proofs.Inv.{AtRest, InvOf, idle}
 use Rattle.pp_laws_crash.proofs.Runs64.{few_read}
@@ -345,85 +346,51 @@ did_inv_so : (s : State) (op : DiskOp) (ok : Bool) → may_end_op s op ≡ true 
 did_inv_so s op true may h = done_step s op h (under_is op s.under_way may)
 did_inv_so s op false may h = failed_step s op h (under_is op s.under_way may)
 
--- it changes what the disk is about
-abbrev pub changes_disk : Happening → Bool
-changes_disk (Woke image) = true
-changes_disk (Waits w) = false
-changes_disk (Clock seconds) = false
-changes_disk (Opened n) = false
-changes_disk (CanRead n) = false
-changes_disk (CanWrite n) = false
-changes_disk (Heard c bytes) = false
-changes_disk (HungUp c) = false
-changes_disk (Said c offered bytes) = false
-changes_disk (Shut c) = false
-changes_disk (Dialled n host port) = false
-changes_disk (Undialled host port) = false
-changes_disk (Reached k) = false
-changes_disk (Ended k) = false
-changes_disk (Broke k) = false
-changes_disk (Asked k bytes) = false
-changes_disk (Got k bytes) = false
-changes_disk (Dropped k) = false
-changes_disk (NoneYet n) = false
-changes_disk (Began op) = true
-changes_disk (Did op ok) = true
-changes_disk (Unread name) = true
-changes_disk (Noted (Taken c i d)) = false
-changes_disk (Noted (Cut c cause)) = false
-changes_disk (Noted (NotedKept key tag n extent)) = true
-changes_disk (Noted (Gone key)) = true
-changes_disk (Noted (Forgotten key)) = false
-changes_disk (Noted (Evicted key tag n i)) = false
-changes_disk (Noted (Loaded key tag n i)) = false
-changes_disk (Rooted folder) = true
-changes_disk (Listed ok) = true
-changes_disk (Listens port ok) = true
-changes_disk (Configured file text) = true
-changes_disk (Printed text) = false
-changes_disk Stopped = false
-
-module _ (s : State) (owed : OwedIn s.phase s.owed) where
+-- from a state that is as another was
+module _ {o : State} (s : State) (owed : OwedIn s.phase s.owed) (was : Kept o s) where
   self : Kept s s
   self = kept_self s owed
 
-  pub changed_kept : (happening : Happening) → changes_disk happening ≡ false → IsPermitted s happening → Kept s (changed s happening)
+  pub changed_on : (happening : Happening) → changes_disk happening ≡ false → IsPermitted s happening → Kept o (changed s happening)
   unfolding changed permits noted
-  changed_kept (Waits w) still is = rest_with-kept w _ ((parts_of (ending-kept s self)).recovers_is ∙ ends_turns s owed (in_so s Awaiting (may_wait s) _ (permitted s (Waits w) refl is))) (ending-kept s self)
-  changed_kept (Clock seconds) still is = event-kept _ ((parts_of (tick-kept seconds s self)).recovers_is ∙ awaits s (permitted s (Clock seconds) refl is)) (tick-kept seconds s self)
-  changed_kept (Opened n) still is = event-kept _ ((parts_of (opened-kept n s self)).recovers_is ∙ awaits s (first_holds (is_awaiting s) _ (permitted s (Opened n) refl is))) (opened-kept n s self)
-  changed_kept (CanRead n) still is = let at = awaiting s (permitted s (CanRead n) refl is) in event-kept _ ((parts_of (owing-kept (ReadOf n) n s at self)).recovers_is ∙ ap recovers at) (owing-kept (ReadOf n) n s at self)
-  changed_kept (CanWrite n) still is = let at = awaiting s (permitted s (CanWrite n) refl is) in event-kept _ ((parts_of (owing-kept (WriteTo n) n s at self)).recovers_is ∙ ap recovers at) (owing-kept (WriteTo n) n s at self)
-  changed_kept (Heard c bytes) still is = paid-kept _ (hear-kept c bytes s self)
-  changed_kept (HungUp c) still is = paid-kept _ (hang_up-kept c s self)
-  changed_kept (Said c offered bytes) still is = paid-kept _ (said-kept c (length bytes) s self)
-  changed_kept (Shut c) still is = shut-kept c _ (come_to-kept Connecting s self)
-  changed_kept (Dialled n host port) still is = dialled-kept n host port (come_to Connecting s) (come_to-kept Connecting s self)
-  changed_kept (Undialled host port) still is = undialled-kept (come_to Connecting s) (come_to-kept Connecting s self)
-  changed_kept (Reached k) still is = event-kept _ ((parts_of (reached-kept k s self)).recovers_is ∙ awaits s (first_holds (is_awaiting s) _ (permitted s (Reached k) refl is))) (reached-kept k s self)
-  changed_kept (Ended k) still is = paid-kept _ (gone-kept true k s self)
-  changed_kept (Broke k) still is = paid-kept _ (gone-kept false k _ (event-kept s (broke_turns s k owed (permitted s (Broke k) refl is)) self))
-  changed_kept (Asked k bytes) still is = paid-kept _ (ask-kept k (length bytes) s self)
-  changed_kept (Got k bytes) still is = paid-kept _ (end_replies-kept _ (got-kept (length bytes) k bytes s self))
-  changed_kept (Dropped k) still is = dropped-kept k _ (come_to-kept Connecting s self)
-  changed_kept (NoneYet n) still is = paid-kept s self
-  changed_kept Stopped still is = event-kept (record s { is_stopped = true }) (awaits s (permitted s Stopped refl is)) (kept (parts_of self))
-  changed_kept (Noted (Taken c i d)) still is = take_decision-kept c d _ (deciding-kept s (deciding_at s (λ t. may_take t c i d) (taken_so s c i d is)) self)
-  changed_kept (Noted (Cut c cause)) still is = close_client-kept c true _ (deciding-kept s (deciding_at s (λ t. may_cut t c cause) (permitted s (Noted (Cut c cause)) refl is)) self)
-  changed_kept (Noted (Forgotten key)) still is = forgotten_by-kept key s self
-  changed_kept (Noted (Evicted key tag n i)) still is = evicted-kept _ (come_to-kept Evicting s self)
-  changed_kept (Noted (Loaded key tag n i)) still is = load-kept key i s self
-  changed_kept (Printed text) still is = self
-  changed_kept (Woke image) still is = absurd (cc still)
-  changed_kept (Began op) still is = absurd (cc still)
-  changed_kept (Did op ok) still is = absurd (cc still)
-  changed_kept (Unread name) still is = absurd (cc still)
-  changed_kept (Noted (NotedKept key tag n extent)) still is = absurd (cc still)
-  changed_kept (Noted (Gone key)) still is = absurd (cc still)
-  changed_kept (Rooted folder) still is = absurd (cc still)
-  changed_kept (Listed ok) still is = absurd (cc still)
-  changed_kept (Listens port ok) still is = absurd (cc still)
-  changed_kept (Configured file text) still is = absurd (cc still)
+  changed_on (Waits w) still is = rest_with-kept w _ ((parts_of (ending-kept s self)).recovers_is ∙ ends_turns s owed (in_so s Awaiting (may_wait s) _ (permitted s (Waits w) refl is))) (ending-kept s was)
+  changed_on (Clock seconds) still is = event-kept _ ((parts_of (tick-kept seconds s self)).recovers_is ∙ awaits s (permitted s (Clock seconds) refl is)) (tick-kept seconds s was)
+  changed_on (Opened n) still is = event-kept _ ((parts_of (opened-kept n s self)).recovers_is ∙ awaits s (first_holds (is_awaiting s) _ (permitted s (Opened n) refl is))) (opened-kept n s was)
+  changed_on (CanRead n) still is = let at = awaiting s (permitted s (CanRead n) refl is) in event-kept _ ((parts_of (owing-kept (ReadOf n) n s at self)).recovers_is ∙ ap recovers at) (owing-kept (ReadOf n) n s at was)
+  changed_on (CanWrite n) still is = let at = awaiting s (permitted s (CanWrite n) refl is) in event-kept _ ((parts_of (owing-kept (WriteTo n) n s at self)).recovers_is ∙ ap recovers at) (owing-kept (WriteTo n) n s at was)
+  changed_on (Heard c bytes) still is = paid-kept _ (hear-kept c bytes s was)
+  changed_on (HungUp c) still is = paid-kept _ (hang_up-kept c s was)
+  changed_on (Said c offered bytes) still is = paid-kept _ (said-kept c (length bytes) s was)
+  changed_on (Shut c) still is = shut-kept c _ (come_to-kept Connecting s was)
+  changed_on (Dialled n host port) still is = dialled-kept n host port (come_to Connecting s) (come_to-kept Connecting s was)
+  changed_on (Undialled host port) still is = undialled-kept (come_to Connecting s) (come_to-kept Connecting s was)
+  changed_on (Reached k) still is = event-kept _ ((parts_of (reached-kept k s self)).recovers_is ∙ awaits s (first_holds (is_awaiting s) _ (permitted s (Reached k) refl is))) (reached-kept k s was)
+  changed_on (Ended k) still is = paid-kept _ (gone-kept true k s was)
+  changed_on (Broke k) still is = paid-kept _ (gone-kept false k _ (event-kept s (broke_turns s k owed (permitted s (Broke k) refl is)) was))
+  changed_on (Asked k bytes) still is = paid-kept _ (ask-kept k (length bytes) s was)
+  changed_on (Got k bytes) still is = paid-kept _ (end_replies-kept _ (got-kept (length bytes) k bytes s was))
+  changed_on (Dropped k) still is = dropped-kept k _ (come_to-kept Connecting s was)
+  changed_on (NoneYet n) still is = paid-kept s was
+  changed_on Stopped still is = event-kept (record s { is_stopped = true }) (awaits s (permitted s Stopped refl is)) (kept (parts_of was))
+  changed_on (Noted (Taken c i d)) still is = take_decision-kept c d _ (deciding-kept s (deciding_at s (λ t. may_take t c i d) (taken_so s c i d is)) was)
+  changed_on (Noted (Cut c cause)) still is = close_client-kept c true _ (deciding-kept s (deciding_at s (λ t. may_cut t c cause) (permitted s (Noted (Cut c cause)) refl is)) was)
+  changed_on (Noted (Forgotten key)) still is = forgotten_by-kept key s was
+  changed_on (Noted (Evicted key tag n i)) still is = evicted-kept _ (come_to-kept Evicting s was)
+  changed_on (Noted (Loaded key tag n i)) still is = load-kept key i s was
+  changed_on (Printed text) still is = was
+  changed_on (Woke image) still is = absurd (cc still)
+  changed_on (Began op) still is = absurd (cc still)
+  changed_on (Did op ok) still is = absurd (cc still)
+  changed_on (Unread name) still is = absurd (cc still)
+  changed_on (Noted (NotedKept key tag n extent)) still is = absurd (cc still)
+  changed_on (Noted (Gone key)) still is = absurd (cc still)
+  changed_on (Rooted folder) still is = absurd (cc still)
+  changed_on (Listed ok) still is = absurd (cc still)
+  changed_on (Listens port ok) still is = absurd (cc still)
+  changed_on (Configured file text) still is = absurd (cc still)
+
+pub changed_kept : (s : State) (owed : OwedIn s.phase s.owed) (happening : Happening) → changes_disk happening ≡ false → IsPermitted s happening → Kept s (changed s happening)
+changed_kept s owed happening still is = changed_on s owed (kept_self s owed) happening still is
 
 module _ (s : State) (h : Inv s) where
   pub changed_inv : (happening : Happening) → HoldsAll (come_to Keeping s) → IsPermitted s happening → Inv (changed s happening)

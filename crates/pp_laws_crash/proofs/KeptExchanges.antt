@@ -33,7 +33,7 @@ use Rattle.pp_law.specs.Table.{row, row_for, instance, Next, next_of}
 use Rattle.pp_law.specs.ThroughHeads.{invalidates, key_named, is_same_host, clear_named, clear_each, places_named, invalidated, disproves, reads, disproved, through_head}
 use Rattle.pp_law.specs.Unseen.{is_unseen, drop_on, drop_unseen}
 use Rattle.pp_laws_crash.proofs.Frames.{Kept, PartsOf, kept, parts_of, when, each_of, by_aim_of, by_outcome, by_front, by_result}
-use Rattle.pp_laws_crash.proofs.KeptTable.{on_instance-kept, swept-kept, clear-kept, mark_row-kept, make_row-kept, enter-kept, note_use-kept, on_conn-kept, on_exchange-kept, on_client-kept, on_client_of-kept, each_client-kept, each_conn-kept, lose_attempt-kept, fail-kept, end_exchange-kept, close_conn-kept, forsake-kept, leave-kept}
+use Rattle.pp_laws_crash.proofs.KeptTable.{on_instance-kept, swept-kept, clear-kept, mark_row-kept, make_row-kept, enter-kept, note_use-kept, on_conn-kept, on_exchange-kept, on_client-kept, on_client_of-kept, each_client-kept, each_conn-kept, lose_attempt-kept, fail-kept, end_exchange-kept, close_conn-kept, leave-kept}
 
 -- ---- decisions
 
@@ -315,6 +315,9 @@ more_sent o s part p = record {
   owed_in = p.owed_in;
   were = p.were;
   stay = p.stay;
+  same = p.same;
+  there = p.there;
+  more = p.more;
   grew = (part ∷ p.grew.0, ap (λ (l : List Sent). part ∷ l) p.grew.1);
 }
 

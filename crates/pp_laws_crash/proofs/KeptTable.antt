@@ -1,5 +1,5 @@
 -- Changes of rows, connections and exchanges keep what the disk is about.
-use Rattle.std.proofs.Common.{◌≡◌, refl, ℕ, nat_lt, Bool, true, false, not, ◌==◌, ◌&&◌, List, [], ◌∷◌, Option, Some, None, sym, ap, ◌∙◌, option_and_then}
+use Rattle.std.proofs.Common.{inl, inr, map, ◌≡◌, refl, ℕ, nat_lt, Bool, true, false, not, ◌==◌, ◌&&◌, List, [], ◌∷◌, Option, Some, None, sym, ap, ◌∙◌, option_and_then}
 use Rattle.pp_fresh.specs.declared.aging.Times.{Times}
 use Rattle.pp_peers.specs.declared.placing.Placed.TheVariants.{On, Dial, CloseThenDial, Wait}
 use Rattle.pp_peers.specs.declared.placing.Placed.{Placed}
@@ -7,15 +7,15 @@ use Rattle.pp_target.specs.Key.{text_of}
 use Rattle.pp_text.specs.Fields.{Field}
 use Rattle.pp_valid.specs.declared.version.Version.{Version}
 use Rattle.pp_law.specs.Chunks.{is_chunk, use_chunk, drop_chunk, note_use}
-use Rattle.std.specs.Prelude.{find}
+use Rattle.std.specs.Prelude.{bytes_eq, cond, filter, find, is_some, ◌++◌, ◌||◌, ◌⊎◌}
 use Rattle.pp_law.specs.Closing.{forsake, leave, leave_one, exchanges_of, close_client}
 use Rattle.pp_law.specs.Connections.{client, conn, exchange, on_conn, on_exchange, on_client, on_client_of, each_client, each_conn, each_exchange, is_unfilled, give_up_row, charge, lose_attempt, fail, may_ask_again, end_exchange, leave_place, lose_place, close_conn, attempts_of, lost_one, place_for, put_on, if_unplaced, place_each, placing, WaitsDial, WaitsDrop, Placement}
-use Rattle.pp_law.specs.Lists.{Bytes, change}
+use Rattle.pp_law.specs.Lists.{Bytes, change, has_text}
 use Rattle.pp_law.specs.Stages.{is_headed}
 use Rattle.pp_law.specs.State.{State, Course, Client, Conn, Exchange, Instance, Entry}
-use Rattle.pp_law.specs.Table.{is_entry_of, row, row_on_disk, rows, idle_row, on_instance, forget, swept, clear, mark_row, forget_row, with_room, add_row, make_row, enter}
+use Rattle.pp_law.specs.Table.{displaced_by, is_entry_of, is_namesake, row, row_on_disk, rows, idle_row, on_instance, forget, swept, clear, mark_row, forget_row, with_room, add_row, make_row, enter}
 use Rattle.pp_laws.proofs.Lists.{From, in_map}
-use Rattle.pp_laws_crash.proofs.Frames.{Kept, PartsOf, WasEntry, StaysEntry, kept, parts_of, now_at, in_changed, when, each_of}
+use Rattle.pp_laws_crash.proofs.Frames.{AreThere, Kept, PartsOf, WasEntry, StaysEntry, kept, parts_of, now_at, in_changed, unstaled, when, each_of}
 
 -- ---- rows
 
@@ -57,7 +57,63 @@ same_as : (was now : Entry) (b : Bool) → now ≡ (elim b as (λ c. Entry) [ tr
 same_as was now true eq = (ap (λ (x : Entry). x.name) eq, ap (λ (x : Entry). x.key) eq, ap (λ (x : Entry). x.version) eq, ap (λ (x : Entry). x.extent) eq)
 same_as was now false eq = (ap (λ (x : Entry). x.name) eq, ap (λ (x : Entry). x.key) eq, ap (λ (x : Entry). x.version) eq, ap (λ (x : Entry). x.extent) eq)
 
-staled_parts : (o s : State) (key : Bytes) → PartsOf o s → PartsOf o (record s { entries = change (is_entry_of key) (λ e. record e { is_stale = true }) s.entries })
+unstaled_same : (p : Entry → Bool) (es : List Entry) → map unstaled (change p staled es) ≡ map unstaled es
+unstaled_same p [] = refl
+unstaled_same p (e ∷ es) = by (p e) (unstaled_same p es)
+  where
+    by : (b : Bool) → map unstaled (change p staled es) ≡ map unstaled es → unstaled (elim b as (λ c. Entry) [ true ↦ staled e | false ↦ e ]) ∷ map unstaled (change p staled es) ≡ unstaled e ∷ map unstaled es
+    by true rest = ap (λ (xs : List Entry). unstaled e ∷ xs) rest
+    by false rest = ap (λ (xs : List Entry). unstaled e ∷ xs) rest
+
+-- whose name another key takes has an entry still, whether it is stale or not
+found_still : (key : Bytes) (p : Entry → Bool) (es : List Entry) → is_some (find (is_entry_of key) (change p staled es)) ≡ is_some (find (is_entry_of key) es)
+found_still key p [] = refl
+found_still key p (e ∷ es) = by (p e) (found_still key p es)
+  where
+    at : (b : Bool) (x y : Entry) (f g : Option Entry) → is_some f ≡ is_some g → is_some (cond b (Some x) f) ≡ is_some (cond b (Some y) g)
+    at true x y f g rest = refl
+    at false x y f g rest = rest
+
+    by : (b : Bool) → is_some (find (is_entry_of key) (change p staled es)) ≡ is_some (find (is_entry_of key) es)
+        → is_some (find (is_entry_of key) (elim b as (λ c. Entry) [ true ↦ staled e | false ↦ e ] ∷ change p staled es)) ≡ is_some (find (is_entry_of key) (e ∷ es))
+    by true rest = at (is_entry_of key e) (staled e) e _ _ rest
+    by false rest = at (is_entry_of key e) e e _ _ rest
+
+any_of_two : (key : Bytes) (xs ys : List Bytes) → has_text key (xs ++ ys) ≡ true → (has_text key xs ≡ true) ⊎ (has_text key ys ≡ true)
+any_of_two key [] ys is = inr is
+any_of_two key (x ∷ xs) ys is = by (bytes_eq x key) is (any_of_two key xs ys)
+  where
+    by : (b : Bool) → (b || has_text key (xs ++ ys)) ≡ true → (has_text key (xs ++ ys) ≡ true → (has_text key xs ≡ true) ⊎ (has_text key ys ≡ true)) → ((b || has_text key xs) ≡ true) ⊎ (has_text key ys ≡ true)
+    by true some rest = inl refl
+    by false some rest = rest some
+
+any_behind : (key : Bytes) (xs ys : List Bytes) → has_text key ys ≡ true → has_text key (xs ++ ys) ≡ true
+any_behind key [] ys is = is
+any_behind key (x ∷ xs) ys is = by (bytes_eq x key) (any_behind key xs ys is)
+  where
+    by : (b : Bool) → has_text key (xs ++ ys) ≡ true → (b || has_text key (xs ++ ys)) ≡ true
+    by true rest = refl
+    by false rest = rest
+
+namesake_there : (key : Bytes) (p : Entry → Bool) (es : List Entry) → has_text key (map (λ e. e.key) (filter p es)) ≡ true → is_some (find (is_entry_of key) es) ≡ true
+namesake_there key p [] is = absurd (cc is)
+namesake_there key p (e ∷ es) is = by (p e) (is_entry_of key e) refl is (namesake_there key p es)
+  where
+    by : (b c : Bool) → is_entry_of key e ≡ c → has_text key (map (λ x. x.key) (cond b (e ∷ filter p es) (filter p es))) ≡ true
+        → (has_text key (map (λ x. x.key) (filter p es)) ≡ true → is_some (find (is_entry_of key) es) ≡ true) → is_some (cond c (Some e) (find (is_entry_of key) es)) ≡ true
+    by b true at some rest = refl
+    by true false at some rest = rest (sym (ap (λ (t : Bool). t || has_text key (map (λ x. x.key) (filter p es))) at) ∙ some)
+    by false false at some rest = rest some
+
+displaced_there : (key : Bytes) (s : State) → AreThere s.displaced s.entries → AreThere (displaced_by key s) (change (is_entry_of key) staled s.entries)
+displaced_there key s are other has =
+    found_still other (is_entry_of key) s.entries ∙ by (any_of_two other (map (λ e. e.key) (filter (is_namesake key) s.entries)) s.displaced has)
+  where
+    by : (has_text other (map (λ e. e.key) (filter (is_namesake key) s.entries)) ≡ true) ⊎ (has_text other s.displaced ≡ true) → is_some (find (is_entry_of other) s.entries) ≡ true
+    by (inl named) = namesake_there other (is_namesake key) s.entries named
+    by (inr was) = are other was
+
+staled_parts : (o s : State) (key : Bytes) → PartsOf o s → PartsOf o (record s { entries = change (is_entry_of key) (λ e. record e { is_stale = true }) s.entries; displaced = displaced_by key s })
 staled_parts o s key p = record {
   disk_is = p.disk_is;
   agenda_is = p.agenda_is;
@@ -70,6 +126,9 @@ staled_parts o s key p = record {
   owed_in = p.owed_in;
   were = λ e i. were e (in_map (now_at (is_entry_of key) staled) e s.entries i);
   stay = λ e i. stay e (p.stay e i);
+  same = unstaled_same (is_entry_of key) s.entries ∙ p.same;
+  there = λ are. displaced_there key s (p.there are);
+  more = λ other has. any_behind other _ s.displaced (p.more other has);
   grew = p.grew;
 }
   where

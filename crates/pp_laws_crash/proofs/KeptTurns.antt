@@ -127,6 +127,9 @@ in_turn phase s owed recovered turns was p = record {
   owed_in = λ isnt. let both : true ≡ false = sym turns ∙ isnt in absurd (cc both);
   were = p.were;
   stay = p.stay;
+  same = p.same;
+  there = p.there;
+  more = p.more;
   grew = p.grew;
 }
 
@@ -150,7 +153,7 @@ behind-kept Following s is h = fill-kept _ (give_up_asks-kept _ (drop_unseen-kep
 behind-kept Connecting s is h = placing-kept _ (in_phase-kept DecidingAgain s refl refl (ap recovers is) h)
 behind-kept DecidingAgain s is h = h
 
-next-kept : {o : State} (s : State) → Kept o s → Kept o (next s)
+pub next-kept : {o : State} (s : State) → Kept o s → Kept o (next s)
 unfolding next
 next-kept s h = behind-kept s.phase s refl h
 
@@ -203,6 +206,9 @@ owing-kept {o} owed n s is h = kept (record {
   owed_in = λ isnt. let both : true ≡ false = sym (ap takes_turns is) ∙ isnt in absurd (cc both);
   were = (parts_of h).were;
   stay = (parts_of h).stay;
+  same = (parts_of h).same;
+  there = (parts_of h).there;
+  more = (parts_of h).more;
   grew = (parts_of h).grew;
 })
 
@@ -224,6 +230,9 @@ paid-kept {o} s h = regained-kept _ (kept (record {
   owed_in = λ isnt. refl;
   were = (parts_of h).were;
   stay = (parts_of h).stay;
+  same = (parts_of h).same;
+  there = (parts_of h).there;
+  more = (parts_of h).more;
   grew = (parts_of h).grew;
 }))
 

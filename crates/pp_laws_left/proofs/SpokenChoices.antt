@@ -55,7 +55,7 @@ relayed_some s c x is relays = by c.brought refl
     none : ((key : Bytes) → begun_now s c key ≡ Other → ⊥) → ⊥
     none off =
         let isnt : is_relay x ≡ false = decide_off is_relay s c (λ status. refl) (λ head key. decision_off is_relay head (row_for s head (text_of key)) (begun_now s c (text_of key)) s.clock (λ status. refl) refl
-            (begun_off head (row_for s head (text_of key)) (begun_now s c (text_of key)) (is_ready_row head (row_for s head (text_of key)) (begun_now s c (text_of key)) s.clock) (off (text_of key)))) x is in
+        (begun_off head (row_for s head (text_of key)) (begun_now s c (text_of key)) (is_ready_row head (row_for s head (text_of key)) (begun_now s c (text_of key)) s.clock) (off (text_of key)))) x is in
         let both : true ≡ false = sym relays ∙ isnt in
         cc both
 

@@ -35,7 +35,7 @@ all_end P m (k ∷ ms) all is = by (P k) all (λ rest. all_end P m ms rest is)
     by true rest later = later rest
     by false rest later = absurd (cc rest)
 
-one_more : (P : ℕ → Bool) (b : Bool) (m : ℕ) (ms : List ℕ) → list_all P ms ≡ true → (b ≡ true → P m ≡ true) → list_all P (with_written_by b m ms) ≡ true
+pub one_more : (P : ℕ → Bool) (b : Bool) (m : ℕ) (ms : List ℕ) → list_all P ms ≡ true → (b ≡ true → P m ≡ true) → list_all P (with_written_by b m ms) ≡ true
 one_more P false m ms all is = all
 one_more P true m ms all is = by (nat_lt (length ms) 320)
   where
@@ -43,7 +43,7 @@ one_more P true m ms all is = by (nat_lt (length ms) 320)
     by true = all_end P m ms all (is refl)
     by false = all
 
-any_at : {A : Type 0} (f : A → Bool) (xs : List A) (i : ℕ) (x : A) → slice_get xs i ≡ Some x → f x ≡ true → list_any f xs ≡ true
+pub any_at : {A : Type 0} (f : A → Bool) (xs : List A) (i : ℕ) (x : A) → slice_get xs i ≡ Some x → f x ≡ true → list_any f xs ≡ true
 any_at f [] i x at is = absurd (cc at)
 any_at f (y ∷ ys) zero x at is = ap (λ (b : Bool). b || list_any f ys) (ap f (some_is y x at) ∙ is)
 any_at f (y ∷ ys) (suc i) x at is = ap (λ (b : Bool). f y || b) (any_at f ys i x at is) ∙ or_all (f y)
@@ -52,7 +52,7 @@ any_at f (y ∷ ys) (suc i) x at is = ap (λ (b : Bool). f y || b) (any_at f ys 
     or_all true = refl
     or_all false = refl
 
-or_last : (a b : Bool) → b ≡ true → (a || b) ≡ true
+pub or_last : (a b : Bool) → b ≡ true → (a || b) ≡ true
 or_last true b is = refl
 or_last false b is = is
 

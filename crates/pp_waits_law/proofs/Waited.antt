@@ -18,7 +18,7 @@ use Rattle.pp_obeys.specs.Moves.{Goes, Leads}
 use Rattle.pp_peers.specs.declared.peers.Peer.{Peer}
 use Rattle.pp_proxy.specs.Awaiting.{Awaits, Rests, loud_of}
 use Rattle.pp_seats.specs.declared.seat.Seat.{Seat}
-use Rattle.pp_state.specs.Ends.{Parts, numbers_of, parts}
+use Rattle.pp_state.specs.Ends.{AreInOrder, AreSeated, Parts, numbers_of, parts}
 use Rattle.pp_state.specs.Numbers.{with_number, with_read_by}
 use Rattle.pp_state.specs.declared.state.State.{State as Turn}
 use Rattle.pp_wants.specs.Awaited.{all_got, is_read as is_got, with_got}
@@ -132,20 +132,20 @@ before_out n false ms out = out
 pub all_read_out : (n : ℕ) (before : List ℕ) (q : Turn) → has_number n (numbers_of q.seats.items) ≡ false → has_number n before ≡ false → has_number n (all_read q before) ≡ false
 all_read_out n before q away out = all_out n q.seats.items q.awake.items (read_before q before) away (before_out n (length q.awake.items == length q.seats.items) before out)
 
-pub stand_first : ClientsStandFirst
-stand_first before w clients d e seated order apart awaits i peer here =
-    ap (λ (ns : List ℕ). has_number peer.number ns) taken ∙ all_read_out peer.number before d.state its.clients its.read
+-- of those that are read, the clients
+pub clients_taken : (before : List ℕ) (w : Wants) (clients : ℕ) (d e : Desk) → AreSeated d.state → AreInOrder before → Awaits before w clients d e → take clients w.read.items ≡ all_read d.state before
+clients_taken before w clients d e seated order awaits =
+    ap₂ (λ (n : ℕ) (ns : List ℕ). take n ns) (awaits.first order) (awaits.read seated order ∙ added.is) ∙ take_front (all_read d.state before) added.more
   where
-    its : IsApart before d peer
-    its = apart i peer here
-
     added : Adds (all_read d.state before) (all_got (loud_of d) (parts d.state) d.peers (all_read d.state before))
     added = all_added (loud_of d) (parts d.state) d.peers (all_read d.state before)
 
-    taken : take clients w.read.items ≡ all_read d.state before
-    taken =
-        ap₂ (λ (n : ℕ) (ns : List ℕ). take n ns) (awaits.first order) (awaits.read seated order ∙ added.is)
-        ∙ take_front (all_read d.state before) added.more
+pub stand_first : ClientsStandFirst
+stand_first before w clients d e seated order apart awaits i peer here =
+    ap (λ (ns : List ℕ). has_number peer.number ns) (clients_taken before w clients d e seated order awaits) ∙ all_read_out peer.number before d.state its.clients its.read
+  where
+    its : IsApart before d peer
+    its = apart i peer here
 
 -- ---- the wait
 

@@ -6,7 +6,7 @@
 //! wants are the law's, as to who is accepted, who is written to, and which origins are read.
 //!
 //! Not said: that the law permits the wait, which is a premise here (`pp_laws_served` says it of wants that are as good as the law's); which
-//! clients are read, of whom some are as at the last wait, so that nobody else is read either; and the event itself.
+//! clients are read, of whom some are as at the last wait, so that nobody else is read either (`pp_sleepers_law` says it); and the event itself.
 //!
 //! To the layer above: each is the clause of a function that does nothing. It is one part of the proof that the program obeys the law.
 //!

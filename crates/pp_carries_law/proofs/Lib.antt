@@ -1,0 +1,5 @@
+pub mod Kept
+pub mod Left
+pub mod MayClose
+pub mod Near
+pub mod Same

@@ -1,0 +1,4 @@
+pub mod Carried
+pub mod Closing
+pub mod Keeping
+pub mod Leaving

@@ -1,0 +1,24 @@
+//! What a turn carries from wait to wait, and the joints of a turn from an event to its decisions.
+//!
+//! Each piece of a turn is proved from where the one before leaves it: the wait (`pp_waits_law`), the event (`pp_events_law`), what leaves
+//! memory behind it (`pp_evicting_law`), what is kept on the disk (`pp_keeps_law`, `pp_kept_law`), and decisions, rounds and the end
+//! (`pp_rounds_law`). Each carries what it works on; `specs/Carried.antt` has the rest, which some piece rests on and no other changes: what
+//! is on the disk, what is set for the life, which connections are open, and that exchanges can be asked.
+//!
+//! `specs/Leaving.antt`: where an event is handled memory may be left, and what is carried stands behind. `specs/Keeping.antt`: there the disk
+//! may be worked on, and behind it the turn stands where decisions come next. `specs/Closing.antt`: closings may come in any state of a turn.
+//!
+//! Not said: that what is carried stands behind an event, and from the first decision to the wait.
+//!
+//! To the layer above: each is the clause of a function that does nothing. It is one part of the proof that the program obeys the law.
+//!
+//! Takes no memory, and does nothing when the program runs.
+#![tactic(auto)]
+
+mod closing; // closings may come
+mod keeping; // before and behind the disk
+mod leaving; // behind an event
+
+pub use closing::closings_may_come;
+pub use keeping::keepings_come_behind_what_leaves;
+pub use leaving::memory_may_be_left_behind_events;

@@ -1,0 +1,4 @@
+pub mod Decided
+pub mod Done
+pub mod Served
+pub mod Settled

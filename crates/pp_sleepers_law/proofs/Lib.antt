@@ -1,0 +1,14 @@
+pub mod Awake
+pub mod Deciding
+pub mod Events
+pub mod Good
+pub mod Got
+pub mod Left
+pub mod Loads
+pub mod Places
+pub mod Read
+pub mod Rising
+pub mod Rounds
+pub mod Ticked
+pub mod Turns
+pub mod Written

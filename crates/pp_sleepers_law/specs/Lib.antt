@@ -1,0 +1,4 @@
+pub mod Asleep
+pub mod Good
+pub mod Reads
+pub mod Steps
