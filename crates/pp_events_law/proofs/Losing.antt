@@ -55,12 +55,12 @@ use Rattle.pp_turns_law.specs.Turns.{ShowsTurn}
 use Rattle.pp_world.specs.declared.happening.Happening.TheVariants.{Noted, Unread}
 use Rattle.pp_world.specs.declared.note.Remark.TheVariants.{Gone}
 use Rattle.pp_world.specs.declared.op.DiskOp.TheVariants.{Remove}
-use Rattle.pp_loads_law.proofs.Entries.{IsReadOf}
-use Rattle.pp_loads_law.proofs.Lists.{all_same, any_none, kept_else, none_in, off_by}
-use Rattle.pp_loads_law.proofs.Memory.{steps_beside}
-use Rattle.pp_loads_law.proofs.Nexts.{IsSeen}
-use Rattle.pp_loads_law.specs.Losses.{IsFirstOwed, IsLost, LeadsOut, at_disk, without_entry}
-use Rattle.pp_loads_law.specs.Stands.{HaveOneVersion, AreWhole, StandsInEvent, StandsOnDisk}
+use Rattle.pp_events_law.proofs.Entries.{IsReadOf}
+use Rattle.pp_events_law.proofs.Lists.{all_same, any_none, kept_else, none_in, off_by}
+use Rattle.pp_events_law.proofs.Memory.{steps_beside}
+use Rattle.pp_events_law.proofs.Nexts.{IsSeen}
+use Rattle.pp_events_law.specs.Losses.{IsFirstOwed, IsLost, LeadsOut, at_disk, without_entry}
+use Rattle.pp_events_law.specs.ToLoad.{HaveOneVersion, AreWhole, StandsInEvent, StandsOnDisk}
 
 module _ (number : ℕ → ℕ) (id : ℕ) (peers : List Peer) (p : Turn) (shelf : KeptMap) (seat : Seat) (n : SeatNext) (s : State) (stands : StandsInEvent number (WriteTo id) peers p shelf s) (w : IsSeen number id p s seat n) (r : IsReadOf shelf s w.known_next.source n.at) (to : IsLoadedNext s w.known_next.source r.entry (n.at / 4096)) (first : IsFirstOwed s) where
   abbrev x : Known

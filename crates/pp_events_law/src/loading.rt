@@ -1,6 +1,6 @@
 // A chunk is read back before a write.
-ghost use Rattle.pp_loads_law.specs.Reads.{ChunksAreReadBack};
-ghost use Rattle.pp_loads_law.specs.Writes.{LoadsLead};
+ghost use Rattle.pp_events_law.specs.ReadsBack.{ChunksAreReadBack};
+ghost use Rattle.pp_events_law.specs.Loads.{LoadsLead};
 
 /// It is in memory, and is said next; or its entry is gone, and nothing is owed any more.
 pub fn chunks_are_read_back_as_by_the_law()

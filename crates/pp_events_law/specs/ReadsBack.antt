@@ -19,8 +19,8 @@ use Rattle.pp_valid.specs.declared.version.Version.{Version}
 use Rattle.pp_world.specs.Log.{AppendsAll, Log}
 use Rattle.pp_world.specs.declared.happening.Happening.TheVariants.{Noted}
 use Rattle.pp_world.specs.declared.note.Remark.TheVariants.{Loaded}
-use Rattle.pp_loads_law.specs.Losses.{HasLost, IsFirstOwed}
-use Rattle.pp_loads_law.specs.Stands.{IsOnLog, IsToLoad, StandsInEvent}
+use Rattle.pp_events_law.specs.Losses.{HasLost, IsFirstOwed}
+use Rattle.pp_events_law.specs.ToLoad.{IsOnLog, IsToLoad, StandsInEvent}
 
 abbrev pub loaded_note : Bytes → Version → ℕ → Log
 loaded_note key version index = Noted (Loaded key version.tag version.length index) ∷ []

@@ -9,9 +9,9 @@ use Rattle.pp_law.specs.Store.{chunk_in_file, load, load_from}
 use Rattle.pp_law.specs.Table.{extent_of, instance, kept_row, row}
 use Rattle.pp_seats_law.proofs.Nexts.{found_number}
 use Rattle.pp_store.specs.Kept.{KeptMap}
-use Rattle.pp_loads_law.proofs.Lists.{off_by}
-use Rattle.pp_loads_law.specs.Reads.{IsLoaded}
-use Rattle.pp_loads_law.specs.Stands.{StandsOnDisk}
+use Rattle.pp_events_law.proofs.Lists.{off_by}
+use Rattle.pp_events_law.specs.ReadsBack.{IsLoaded}
+use Rattle.pp_events_law.specs.ToLoad.{StandsOnDisk}
 
 -- ---- a chunk in its place
 

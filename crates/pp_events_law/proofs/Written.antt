@@ -10,9 +10,10 @@ use Rattle.pp_desk.specs.Closings.{peer_numbers, sides}
 use Rattle.pp_desk.specs.declared.desk.Desk.{Desk}
 use Rattle.pp_due.specs.OnDisk.{next_on_disk}
 use Rattle.pp_events_law.proofs.Standing.{awake_as, may_as, open_as}
-use Rattle.pp_events_law.proofs.Told.{sayings_lead}
-use Rattle.pp_events_law.specs.Says.{IsLastSaid, MaySay}
-use Rattle.pp_events_law.specs.Stands.{AreReadyAt, HasLed, IsAt, StandsAtEvent}
+use Rattle.pp_events_law.proofs.Sayings.{sayings_lead}
+use Rattle.pp_events_law.specs.Ready.{HasLedReady, KeysAreGiven, StaysReady}
+use Rattle.pp_events_law.specs.Says.{MaySay}
+use Rattle.pp_events_law.specs.Stands.{AreReadyAt, IsAt, StandsAtEvent}
 use Rattle.pp_flow_law.specs.Tables.{none_leaves}
 use Rattle.pp_law.specs.After.{after}
 use Rattle.pp_law.specs.State.{State, Owed, Term, Handling, Free, WriteTo}
@@ -43,12 +44,12 @@ use Rattle.pp_world.specs.declared.happening.Happening.{Happening}
 use Rattle.pp_world.specs.declared.happening.Happening.TheVariants.{Noted, Unread}
 use Rattle.pp_world.specs.declared.note.Remark.{Remark}
 use Rattle.pp_world.specs.declared.note.Remark.TheVariants.{Gone, Loaded}
-use Rattle.pp_loads_law.proofs.Back.{chunks_are_read_back}
-use Rattle.pp_loads_law.proofs.Unwritten.{handled_so, mid as unread_turn, mid_desk as unread_desk, told_none}
-use Rattle.pp_loads_law.specs.Losses.{HasLost, without_entry}
-use Rattle.pp_loads_law.specs.Reads.{HasRead, loaded_note}
-use Rattle.pp_loads_law.specs.Stands.{IsOnLog, IsToLoad, StandsInEvent}
-use Rattle.pp_loads_law.specs.Writes.{HasLostChunk, IsLastOfRead, LoadsLead, MayLoad}
+use Rattle.pp_events_law.proofs.Back.{chunks_are_read_back}
+use Rattle.pp_events_law.proofs.Unwritten.{handled_so, ready_so, mid as unread_turn, mid_desk as unread_desk, told_none}
+use Rattle.pp_events_law.specs.Losses.{HasLost, without_entry}
+use Rattle.pp_events_law.specs.ReadsBack.{HasRead, loaded_note}
+use Rattle.pp_events_law.specs.ToLoad.{IsOnLog, IsToLoad, StandsInEvent}
+use Rattle.pp_events_law.specs.Loads.{HasLostChunk, LoadsLead, MayLoad}
 
 -- ---- the log
 
@@ -208,6 +209,9 @@ module _ (terms : List Term) (before : Log) (number : ℕ → ℕ) (id i : ℕ) 
   ready_roused : AreReady number p.cache s.next_instance p.seats.items
   ready_roused = subst (λ (d : Desk). AreReady number d.state.cache s.next_instance d.state.seats.items) (sym was) ready
 
+  keys_on : q.seats.items ≡ old.state.seats.items → KeysAreGiven old.state.seats.items y.moving.desk.state.seats.items → KeysAreGiven q.seats.items y.moving.desk.state.seats.items
+  keys_on same given = subst (λ (ss : List Seat). KeysAreGiven ss y.moving.desk.state.seats.items) (sym same) given
+
   -- ---- it was read
 
   module _ (r : HasRead number id old.peers p q x.shelf y.shelf seat x.log between s) where
@@ -250,24 +254,25 @@ module _ (terms : List Term) (before : Log) (number : ℕ → ℕ) (id i : ℕ) 
       still = ticked_mid (WriteTo id) t same_read law_read at_read r.stands.turn ∙ may.still;
       linked = noted_linked x.moving.top x.moving.links (Loaded r.key r.version.tag r.version.length r.index) may.linked r.told;
       settled = λ j other at. may.settled j other (ap (λ (ss : List Seat). slice_get ss j) (sym seats_read) ∙ at);
+      goes = may.goes;
     }
 
-    by_said : HasLed number mid y t ⊎ IsLastSaid id i mid y seat → HasLed number x y s ⊎ (IsLastOfRead number id i x y seat s ⊎ HasLostChunk number x y s)
-    by_said (inl led) =
-        inl
-        (record {
-          log = loaded_note r.key r.version r.index ++ led.log;
-          then = led.then;
-          handled = record {
-            told = told_then (loaded_note r.key r.version r.index) led.log r.told led.handled.told;
-            leads = lead_joined (loaded_note r.key r.version r.index) led.log s t led.then r.leads led.handled.leads;
-            handled = led.handled.handled;
-          };
-        })
-    by_said (inr last) = inr (inl (record { read = mid; then = t; log = loaded_note r.key r.version r.index; told = r.told; leads = r.leads; stands = stands_read; last = last }))
+    said : HasLedReady number mid y t
+    said = sayings_lead number id i mid y seat t stands_read ready_read sound_read may_say bounded (says_mid (WriteTo id) t same_read law_read at_read r.stands.turn r.held)
 
-    was_read : HasLed number x y s ⊎ (IsLastOfRead number id i x y seat s ⊎ HasLostChunk number x y s)
-    was_read = by_said (sayings_lead number id i mid y seat t stands_read ready_read sound_read may_say bounded (says_mid (WriteTo id) t same_read law_read at_read r.stands.turn r.held))
+    was_read : HasLedReady number x y s
+    was_read = record {
+      led = record {
+        log = loaded_note r.key r.version r.index ++ said.led.log;
+        then = said.led.then;
+        handled = record {
+          told = told_then (loaded_note r.key r.version r.index) said.led.log r.told said.led.handled.told;
+          leads = lead_joined (loaded_note r.key r.version r.index) said.led.log s t said.led.then r.leads said.led.handled.leads;
+          handled = said.led.handled.handled;
+        };
+      };
+      ready = λ given. said.ready (keys_on seats_read given);
+    }
 
   -- ---- it could not be read
 
@@ -293,6 +298,11 @@ module _ (terms : List Term) (before : Log) (number : ℕ → ℕ) (id i : ℕ) 
     numbers_lost : numbers_of y.moving.desk.state.seats.items ≡ numbers_of q.seats.items
     numbers_lost = says.numbers ∙ sym (ap numbers_of (seats_mid Free u same_lost law_lost at_lost r.stands.turn))
 
+    ready_lost : StaysReady number mid y u
+    ready_lost =
+        ready_so number i x y read y.shelf between says.says.count seat s u stands_lost (r.ready ready_roused) (here_mid Free u same_lost law_lost at_lost r.stands.turn) (ticked_mid Free u same_lost law_lost at_lost r.stands.turn ∙ may.still) settled_lost
+        (rouses_mid Free u same_lost law_lost at_lost r.stands.turn) may.looks (sound_turns terms s before obeys) law_lost.exchanges r.none r.anew says.says.says says.says.rest numbers_lost says.links says.top bounded
+
     was_lost : HasLostChunk number x y s
     was_lost = record {
       key = r.key;
@@ -305,13 +315,14 @@ module _ (terms : List Term) (before : Log) (number : ℕ → ℕ) (id i : ℕ) 
       handled =
           handled_so number i x y read y.shelf between says.says.count seat s u stands_lost (r.ready ready_roused) (here_mid Free u same_lost law_lost at_lost r.stands.turn) (ticked_mid Free u same_lost law_lost at_lost r.stands.turn ∙ may.still) settled_lost
           (rouses_mid Free u same_lost law_lost at_lost r.stands.turn) may.looks (sound_turns terms s before obeys) law_lost.exchanges r.none r.anew says.says.says says.says.rest numbers_lost says.links says.top bounded;
+      ready = λ given. ready_lost (keys_on (seats_mid Free u same_lost law_lost at_lost r.stands.turn) given);
     }
 
-  all : HasRead number id old.peers p q x.shelf y.shelf seat x.log between s ⊎ HasLost number old.peers p q x.shelf y.shelf seat x.log between s → HasLed number x y s ⊎ (IsLastOfRead number id i x y seat s ⊎ HasLostChunk number x y s)
-  all (inl r) = was_read r
-  all (inr r) = inr (inr (was_lost r))
+  all : HasRead number id old.peers p q x.shelf y.shelf seat x.log between s ⊎ HasLost number old.peers p q x.shelf y.shelf seat x.log between s → HasLedReady number x y s ⊎ HasLostChunk number x y s
+  all (inl r) = inl (was_read r)
+  all (inr r) = inr (was_lost r)
 
-  loads_lead_so : HasLed number x y s ⊎ (IsLastOfRead number id i x y seat s ⊎ HasLostChunk number x y s)
+  loads_lead_so : HasLedReady number x y s ⊎ HasLostChunk number x y s
   loads_lead_so = all result
 
 pub loads_lead : LoadsLead

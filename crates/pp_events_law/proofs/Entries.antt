@@ -20,8 +20,9 @@ use Rattle.pp_shelf_law.specs.Shelf.{ShowsEntry}
 use Rattle.pp_store.specs.Kept.{IsExtent, Kept, KeptMap, kept_of, no_row, row_of}
 use Rattle.pp_target.specs.Name.{name_of}
 use Rattle.pp_valid.specs.declared.version.Version.{Version}
-use Rattle.pp_loads_law.proofs.Lists.{none_in}
-use Rattle.pp_loads_law.specs.Stands.{StandsOnDisk}
+use Rattle.pp_events_law.proofs.AtHand.{less_test}
+use Rattle.pp_events_law.proofs.Lists.{none_in}
+use Rattle.pp_events_law.specs.ToLoad.{StandsOnDisk}
 
 some_found : {A : Type 0} (p : A → Bool) (x : A) (xs : List A) → IsIn x xs → p x ≡ true → find p xs ≡ None → ⊥
 some_found p x [] i holds none = i
@@ -53,9 +54,6 @@ within n extent at whole less = omega (arith, whole, less)
 
 first_kept : (extent at : ℕ) → at < extent → 4096 * (at / 4096) < extent
 first_kept extent at less = omega (arith, less)
-
-less_test : (a b : ℕ) → a < b → nat_lt a b ≡ true
-less_test a b lt = grind (arith, nat_tests)
 
 not_less : (a b : ℕ) → nat_lt a b ≡ false → b ≤ a
 not_less a b is = grind (arith, nat_tests)

@@ -48,7 +48,7 @@ pub record StandsOnDisk (shelf : KeptMap) (s : State) : Type 0 where
 
 -- this is still owed to it; the turn shows the law's state
 pub record StandsInEvent (number : ℕ → ℕ) (owed : Owed) (peers : List Peer) (p : Turn) (shelf : KeptMap) (s : State) : Type 0 where
-  -- IsAt of pp_events_law
+  -- IsAt of Stands
   pub none : s.made_room_for ≡ None
   pub at : s.phase ≡ Handling
   pub owes : s.owed ≡ owed

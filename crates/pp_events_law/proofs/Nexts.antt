@@ -38,7 +38,7 @@ use Rattle.pp_store.specs.Kept.{KeptMap}
 use Rattle.pp_turns_law.proofs.Dry.{at_body}
 use Rattle.pp_turns_law.proofs.Following.{has_source, is_next, none_some}
 use Rattle.pp_turns_law.specs.Nexts.{IsNext}
-use Rattle.pp_loads_law.specs.Stands.{IsToLoad, StandsInEvent}
+use Rattle.pp_events_law.specs.ToLoad.{IsToLoad, StandsInEvent}
 
 -- ---- of the program
 

@@ -9,9 +9,12 @@ use Rattle.pp_desk.specs.Replies.{EndsReplies}
 use Rattle.pp_endings_law.proofs.Walk.{IsGood}
 use Rattle.pp_events_law.proofs.Ends.{has_with}
 use Rattle.pp_events_law.proofs.HandledBehind.{behind_handled}
+use Rattle.pp_events_law.proofs.Left.{AreLeft, replies_left}
 use Rattle.pp_events_law.proofs.Newcomer.{rising}
+use Rattle.pp_events_law.proofs.ReadyBehind.{ready_behind}
 use Rattle.pp_events_law.proofs.Rests.{all_rest, none_ends}
 use Rattle.pp_events_law.specs.Hears.{AreSettled}
+use Rattle.pp_events_law.specs.Ready.{StaysReady}
 use Rattle.pp_law.specs.Closing.{is_of}
 use Rattle.pp_law.specs.Connections.{is_exchange}
 use Rattle.pp_law.specs.Lists.{Bytes, has_number}
@@ -119,3 +122,10 @@ module _ (number : ℕ → ℕ) (i : ℕ) (x y : Turning) (read : Desk) (shelf :
 
   pub handled_so : IsHandled number y.moving u
   handled_so = subst (λ (v : State). IsHandled number y.moving v) (ap paid none_more ∙ paid_same) ended
+
+  -- whoever goes on is as before
+  left : AreLeft (parts q) (parts y.moving.desk.state)
+  left = replies_left read.state.awake.items (sides read) (sides y.moving.desk) (subst (λ (z : Sides). EndsReplies read.state.awake.items z (sides y.moving.desk)) next_is says.2)
+
+  pub ready_so : StaysReady number (mid x read shelf between count) y u
+  ready_so = ready_behind number (mid x read shelf between count) y u u refl left handled_so.follows ready

@@ -32,14 +32,14 @@ use Rattle.pp_text.specs.Bytes.{is_empty}
 use Rattle.pp_turns_law.specs.Rows.{AreReady}
 use Rattle.pp_valid.specs.declared.version.Version.{Version}
 use Rattle.pp_world.specs.Log.{AppendsAll, Log, Told}
-use Rattle.pp_loads_law.proofs.Entries.{IsReadOf, is_read_of}
-use Rattle.pp_loads_law.proofs.Losing.{anew_lost, held_lost, law_lost, leads_lost, ready_lost, stands_lost}
-use Rattle.pp_loads_law.proofs.Nexts.{IsSeen, is_seen}
-use Rattle.pp_loads_law.proofs.Read.{held_behind, leads, ready_behind, rest, rest_behind, some_behind, stands_behind, to_load}
-use Rattle.pp_loads_law.proofs.Unsaid.{nothing_offered}
-use Rattle.pp_loads_law.specs.Losses.{HasLost, IsFirstOwed, without_entry}
-use Rattle.pp_loads_law.specs.Reads.{ChunksAreReadBack, HasRead}
-use Rattle.pp_loads_law.specs.Stands.{IsOnLog, IsToLoad, StandsInEvent}
+use Rattle.pp_events_law.proofs.Entries.{IsReadOf, is_read_of}
+use Rattle.pp_events_law.proofs.Losing.{anew_lost, held_lost, law_lost, leads_lost, ready_lost, stands_lost}
+use Rattle.pp_events_law.proofs.Nexts.{IsSeen, is_seen}
+use Rattle.pp_events_law.proofs.ReadBack.{held_behind, leads, ready_behind, rest, rest_behind, some_behind, stands_behind, to_load}
+use Rattle.pp_events_law.proofs.Unsaid.{nothing_offered}
+use Rattle.pp_events_law.specs.Losses.{HasLost, IsFirstOwed, without_entry}
+use Rattle.pp_events_law.specs.ReadsBack.{ChunksAreReadBack, HasRead}
+use Rattle.pp_events_law.specs.ToLoad.{IsOnLog, IsToLoad, StandsInEvent}
 
 near_chunk : (at : ℕ) → at ≤ 1073741824 → nat_lt (at / 4096) 4294967296 ≡ true
 near_chunk at near = grind (arith, nat_tests, near)

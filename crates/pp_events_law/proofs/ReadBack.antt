@@ -1,6 +1,5 @@
 -- The chunk of the next byte is read back, and the turn shows the law's state behind it.
 use Rattle.std.proofs.Common.{◌≡◌, ◌<◌, ◌≤◌, refl, sym, subst, ap, ap₂, ◌∙◌, ℕ, ◌+◌, ◌-◌, ◌*◌, ◌/◌, ◌%◌, Bool, true, false, ◌&&◌, ◌||◌, not, length, min, nat_lt, take, List, [], Option, None, Ok, arith}
-use Rattle.std.proofs.lemmas.Bool.Decides.{nat_tests}
 use Rattle.std.specs.Prelude.{slice_get}
 use Rattle.pp_cache.specs.Bounds.{IsBounded}
 use Rattle.pp_cache.specs.Memory.{Memory}
@@ -42,14 +41,14 @@ use Rattle.pp_turns_law.specs.Rows.{AreReady, IsReady}
 use Rattle.pp_turns_law.specs.Turns.{IsFollowing, ShowsTurn}
 use Rattle.pp_valid.specs.declared.version.Version.{Version}
 use Rattle.pp_world.specs.Log.{Log}
-use Rattle.pp_loads_law.proofs.Bytes.{IsChunk, is_chunk}
-use Rattle.pp_loads_law.proofs.Entries.{IsReadOf}
-use Rattle.pp_loads_law.proofs.Loaded.{disk_stands, its_chunks, load_is, only_chunks, put_there, with_chunk}
-use Rattle.pp_loads_law.proofs.Memory.{bytes_added, cache_shows, same_there, still_stands, turn_loaded, with_added}
-use Rattle.pp_loads_law.proofs.Nexts.{IsSeen}
-use Rattle.pp_loads_law.proofs.Said.{held, in_memory, some_offered}
-use Rattle.pp_loads_law.specs.Reads.{IsLoaded, loaded_note}
-use Rattle.pp_loads_law.specs.Stands.{StandsInEvent, StandsOnDisk}
+use Rattle.pp_events_law.proofs.ChunkBytes.{IsChunk, is_chunk}
+use Rattle.pp_events_law.proofs.Entries.{IsReadOf}
+use Rattle.pp_events_law.proofs.Loaded.{disk_stands, its_chunks, load_is, only_chunks, put_there, with_chunk}
+use Rattle.pp_events_law.proofs.Memory.{bytes_added, cache_shows, same_there, still_stands, turn_loaded, with_added}
+use Rattle.pp_events_law.proofs.Nexts.{IsSeen}
+use Rattle.pp_events_law.proofs.AtHand.{held, in_memory, less_test, some_offered}
+use Rattle.pp_events_law.specs.ReadsBack.{IsLoaded, loaded_note}
+use Rattle.pp_events_law.specs.ToLoad.{StandsInEvent, StandsOnDisk}
 
 -- ---- numbers
 
@@ -64,9 +63,6 @@ some_of at n count inside few = omega (arith, inside, few)
 
 other_way : (n i k : ℕ) → k ≡ min 4096 (n - 4096 * i) → k ≡ min 4096 (n - i * 4096)
 other_way n i k is = omega (arith, is)
-
-less_test : (a b : ℕ) → a < b → nat_lt a b ≡ true
-less_test a b lt = grind (arith, nat_tests)
 
 or_first : (a b : Bool) → a ≡ true → (a || b) ≡ true
 or_first true b is = refl

@@ -17,9 +17,9 @@ use Rattle.pp_seats.specs.declared.seat.Seat.{Seat}
 use Rattle.pp_state.specs.declared.state.State.{State as Turn}
 use Rattle.pp_talk.specs.Talking.{offered, offered_in}
 use Rattle.pp_text.specs.Bytes.{is_empty}
-use Rattle.pp_loads_law.proofs.Lists.{and_false}
+use Rattle.pp_events_law.proofs.Lists.{and_false, first_off, rest_off}
 
-less_test : (a b : ℕ) → a < b → nat_lt a b ≡ true
+pub less_test : (a b : ℕ) → a < b → nat_lt a b ≡ true
 less_test a b lt = grind (arith, nat_tests)
 
 -- ---- it is not on the disk alone
@@ -38,14 +38,6 @@ held p seat n its there within = ap (λ (o : Option Next). elim (is_at_body seat
     by false = refl
 
 -- ---- some is at hand
-
-first_off : (a b : Bool) → (a || b) ≡ false → a ≡ false
-first_off true b is = is
-first_off false b is = refl
-
-rest_off : (a b : Bool) → (a || b) ≡ false → b ≡ false
-rest_off true b is = absurd (cc is)
-rest_off false b is = is
 
 on_by : (b : Bool) → not b ≡ false → b ≡ true
 on_by true is = refl

@@ -21,7 +21,7 @@ use Rattle.pp_turns_law.specs.Rows.{AreReady}
 use Rattle.pp_world.specs.Log.{AppendsAll, Log}
 use Rattle.pp_world.specs.declared.happening.Happening.TheVariants.{Noted, Unread}
 use Rattle.pp_world.specs.declared.note.Remark.TheVariants.{Gone}
-use Rattle.pp_loads_law.specs.Stands.{StandsInEvent}
+use Rattle.pp_events_law.specs.ToLoad.{StandsInEvent}
 
 -- the event was owed nothing before the write
 pub record IsFirstOwed (s : State) : Type 0 where

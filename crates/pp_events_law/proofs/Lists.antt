@@ -10,22 +10,22 @@ use Rattle.pp_laws.proofs.Tests.{second_holds}
 use Rattle.pp_laws.specs.Runs.{IsIn}
 use Rattle.pp_shelf_law.proofs.Shelves.{same_bytes}
 
+pub first_off : (a b : Bool) → (a || b) ≡ false → a ≡ false
+first_off true b none = absurd (cc none)
+first_off false b none = refl
+
+pub rest_off : (a b : Bool) → (a || b) ≡ false → b ≡ false
+rest_off true b none = absurd (cc none)
+rest_off false b none = none
+
 pub any_none : {A : Type 0} (p : A → Bool) (xs : List A) → ((x : A) → IsIn x xs → p x ≡ false) → list_any p xs ≡ false
 any_none p [] none = refl
 any_none p (x ∷ xs) none = ap₂ (λ (a b : Bool). a || b) (none x (inl refl)) (any_none p xs (λ y i. none y (inr i)))
 
 pub none_in : {A : Type 0} (p : A → Bool) (x : A) (xs : List A) → list_any p xs ≡ false → IsIn x xs → p x ≡ false
 none_in p x [] none i = absurd i
-none_in p x (y ∷ ys) none (inl is) = ap p is ∙ first (p y) (list_any p ys) none
-  where
-    first : (a b : Bool) → (a || b) ≡ false → a ≡ false
-    first true b is = is
-    first false b is = refl
-none_in p x (y ∷ ys) none (inr i) = none_in p x ys (rest (p y) (list_any p ys) none) i
-  where
-    rest : (a b : Bool) → (a || b) ≡ false → b ≡ false
-    rest true b is = absurd (cc is)
-    rest false b is = is
+none_in p x (y ∷ ys) none (inl is) = ap p is ∙ first_off (p y) (list_any p ys) none
+none_in p x (y ∷ ys) none (inr i) = none_in p x ys (rest_off (p y) (list_any p ys) none) i
 
 pub off_by : (b : Bool) → not b ≡ true → b ≡ false
 off_by true is = absurd (cc is)

@@ -36,7 +36,7 @@ use Rattle.pp_steps_law.proofs.Told.{Stands, are_told_on, told_next}
 use Rattle.pp_steps_law.specs.Steps.{ShowsSteps}
 use Rattle.pp_turns_law.specs.Turns.{ShowsTurn}
 use Rattle.pp_valid.specs.declared.version.Version.{Version}
-use Rattle.pp_loads_law.specs.Reads.{IsLoaded}
+use Rattle.pp_events_law.specs.ReadsBack.{IsLoaded}
 
 -- ---- memory
 
