@@ -19,8 +19,8 @@ use Rattle.pp_turns_law.proofs.First.{IsShownAt, client_shown}
 use Rattle.pp_turns_law.proofs.Wanted.{writes}
 use Rattle.pp_turns_law.specs.Firsts.{AreAwake}
 use Rattle.pp_turns_law.specs.Wants.{numbers_with}
-use Rattle.pp_waits_law.proofs.Wanted.{end_d, few_written, less_room, seat_number, seat_written, written_is}
 use Rattle.pp_waits_law.proofs.Waited.{seat_out}
+use Rattle.pp_waits_law.proofs.Wanted.{end_d, few_written, less_room, seat_number, seat_written, written_is}
 use Rattle.pp_waits_law.proofs.Written.{chosen, or_none, written}
 use Rattle.pp_waits_law.specs.Wanted.{SaysAreWanted}
 use Rattle.pp_wants.specs.Awaited.{is_asked}

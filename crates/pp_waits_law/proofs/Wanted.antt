@@ -30,8 +30,8 @@ use Rattle.pp_waits_law.proofs.Rested.{first_none, none_at}
 use Rattle.pp_waits_law.proofs.Waited.{all_read_out, seat_out}
 use Rattle.pp_waits_law.proofs.Written.{added, chosen, written}
 use Rattle.pp_waits_law.specs.Rests.{StandsLoud}
-use Rattle.pp_waits_law.specs.Wanted.{AcceptsAreWanted, AsksAreWanted, GetsAreWanted, MayWant}
 use Rattle.pp_waits_law.specs.Waits.{IsApart}
+use Rattle.pp_waits_law.specs.Wanted.{AcceptsAreWanted, AsksAreWanted, GetsAreWanted, MayWant}
 use Rattle.pp_wants.specs.Awaited.{is_asked, is_read}
 use Rattle.pp_world.specs.declared.event.Wants.{Wants}
 
