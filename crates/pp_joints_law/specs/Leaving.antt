@@ -1,7 +1,7 @@
 -- From an event that is handled to where the disk is next: attempts count anew, and what leaves memory leaves it (ours).
 use Rattle.std.specs.Prelude.{◌≡◌, ◌⊎◌, ℕ, List, None}
-use Rattle.pp_carries_law.specs.Carried.{IsCarried}
 use Rattle.pp_evicting_law.specs.Evicting.{HasLeft, IsDoneWithEvent, MayLeave}
+use Rattle.pp_joints_law.specs.Carried.{IsCarried}
 use Rattle.pp_law.specs.Replies.{regained}
 use Rattle.pp_law.specs.State.{State, Term}
 use Rattle.pp_obeys.specs.Obeys.{Obeys}

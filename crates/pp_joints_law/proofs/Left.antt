@@ -3,9 +3,6 @@ use Rattle.std.proofs.Common.{◌≡◌, ◌≤◌, ◌+◌, sym, subst, ap, ◌
 use Rattle.std.specs.List.{All}
 use Rattle.std.specs.Prelude.{vec_capacity}
 use Rattle.pp_cache.specs.Memory.{Memory}
-use Rattle.pp_carries_law.proofs.Same.{IsSameDesk, IsSameDisk, disk_as, set_as}
-use Rattle.pp_carries_law.specs.Carried.{IsCarried, StandsLinked}
-use Rattle.pp_carries_law.specs.Leaving.{LeavingsCarry}
 use Rattle.pp_closings_law.specs.Log.{AreLinked}
 use Rattle.pp_decides_law.proofs.GivenUp.{waiting_in_order}
 use Rattle.pp_desk.specs.Closings.{Sides, peer_numbers}
@@ -13,6 +10,9 @@ use Rattle.pp_desk.specs.declared.desk.Desk.{Desk}
 use Rattle.pp_evicting_law.specs.Evicting.{HasLeft, IsDoneWithEvent}
 use Rattle.pp_flow.specs.Changes.{Exchanges, entry_of, numbers as flow_numbers}
 use Rattle.pp_flow_law.specs.Tables.{none_leaves}
+use Rattle.pp_joints_law.proofs.Same.{IsSameDesk, IsSameDisk, disk_as, set_as}
+use Rattle.pp_joints_law.specs.Carried.{IsCarried, StandsLinked}
+use Rattle.pp_joints_law.specs.Leaving.{LeavingsCarry}
 use Rattle.pp_law.specs.Replies.{regained}
 use Rattle.pp_law.specs.State.{State}
 use Rattle.pp_links.specs.Links.{Link}

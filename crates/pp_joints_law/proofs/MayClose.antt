@@ -1,7 +1,8 @@
 -- Closings may come.
 use Rattle.std.proofs.Common.{◌≡◌, ◌≤◌, refl, sym, ◌∙◌, subst, ℕ, false, find, length, List, [], ◌∷◌, Some, inl, inr, arith}
-use Rattle.pp_carries_law.specs.Closing.{ClosingsMayCome, NoneIsRefused}
+use Rattle.pp_cache_law.proofs.Numbers.{some_is}
 use Rattle.pp_closings_law.specs.Sides.{AreOrderly, IsOrderly}
+use Rattle.pp_joints_law.specs.Closing.{ClosingsMayCome, NoneIsRefused}
 use Rattle.pp_law.specs.Connections.{exchange, is_client, is_exchange}
 use Rattle.pp_law.specs.State.{State, Client, Conn, Exchange, Term}
 use Rattle.pp_laws.proofs.Lists.{in_find}
@@ -23,9 +24,6 @@ all_orderly (k ∷ ks) each = (each k (inl refl), all_orderly ks (λ j i. each j
 shorter : (n : ℕ) → n ≤ 8 → n ≤ 1024
 shorter n few = omega (arith, few)
 
-some_same : {A : Type 0} (x y : A) → Some x ≡ Some y → x ≡ y
-some_same x y is = cc is
-
 module _ (terms : List Term) (s : State) (log : Log) (obeys : Obeys terms s log) (none : NoneIsRefused s) where
   sound : IsSoundTurn s
   sound = sound_turns terms s log obeys
@@ -42,7 +40,7 @@ module _ (terms : List Term) (s : State) (log : Log) (obeys : Obeys terms s log)
   goes : (n : ℕ) (e : Exchange) → exchange s n ≡ Some e → (m : ℕ) (c : Client) → e.asker ≡ Some m → find (is_client m) s.clients ≡ Some c → GoesOn c
   goes n e is m c asks at =
       let asker : HasAsker s e m = sound.askers e m (there n e is) asks in
-      let same : asker.asker ≡ c = some_same asker.asker c (sym asker.there ∙ at) in
+      let same : asker.asker ≡ c = some_is asker.asker c (sym asker.there ∙ at) in
       record { going = subst (λ (d : Client). d.is_closing ≡ false) same asker.going; given = none c (here m c at) }
 
   comes : (n : ℕ) (e : Exchange) → exchange s n ≡ Some e → (m : ℕ) (c : Client) → e.asker ≡ Some m → find (is_client m) s.clients ≡ Some c → IsComing c

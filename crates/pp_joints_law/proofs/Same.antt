@@ -3,9 +3,9 @@ use Rattle.std.proofs.Common.{◌≡◌, ◌≤◌, sym, subst, ap, ap₂, ◌�
 use Rattle.std.specs.List.{list_any}
 use Rattle.std.specs.Prelude.{vec_capacity}
 use Rattle.pp_cache_law.specs.Outdated.{AreNoted}
-use Rattle.pp_carries_law.specs.Carried.{StandsAsSet, StandsOnDisk}
 use Rattle.pp_conf.specs.Conf.{Settings}
 use Rattle.pp_desk.specs.declared.desk.Desk.{Desk}
+use Rattle.pp_joints_law.specs.Carried.{StandsAsSet, StandsOnDisk}
 use Rattle.pp_keeps_law.specs.Stands.{DisplacedOnesAreThere, HasOpenNames}
 use Rattle.pp_law.specs.Chunks.{floor, trigger}
 use Rattle.pp_law.specs.Connections.{limits}

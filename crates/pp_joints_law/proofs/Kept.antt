@@ -2,9 +2,6 @@
 use Rattle.std.proofs.Common.{◌≡◌, ◌≤◌, ◌<◌, ◌+◌, refl, sym, subst, ap, ◌∙◌, ℕ, true, length, List}
 use Rattle.std.specs.List.{All}
 use Rattle.std.specs.Prelude.{slice_get, vec_capacity}
-use Rattle.pp_carries_law.proofs.Same.{IsSameDesk, set_as}
-use Rattle.pp_carries_law.specs.Carried.{IsCarried, StandsLinked}
-use Rattle.pp_carries_law.specs.Keeping.{HasBeenKept, KeepingsCarry, TurnsStandToKeep, deciding, kept_in}
 use Rattle.pp_closings_law.specs.Log.{AreLinked}
 use Rattle.pp_desk.specs.Closings.{peer_numbers}
 use Rattle.pp_desk.specs.declared.desk.Desk.{Desk}
@@ -12,6 +9,9 @@ use Rattle.pp_evicting_law.proofs.Leaving.{steps_in}
 use Rattle.pp_evicting_law.specs.Evicting.{StandsBehind}
 use Rattle.pp_flow.specs.Changes.{Exchanges}
 use Rattle.pp_flow_law.specs.Tables.{AreGiven, none_leaves}
+use Rattle.pp_joints_law.proofs.Same.{IsSameDesk, set_as}
+use Rattle.pp_joints_law.specs.Carried.{IsCarried, StandsLinked}
+use Rattle.pp_joints_law.specs.Keeping.{HasBeenKept, KeepingsCarry, TurnsStandToKeep, deciding, kept_in}
 use Rattle.pp_keeps_law.specs.All.{IsDoneWith, IsSameBody}
 use Rattle.pp_kept_law.proofs.Behind.{shown_still}
 use Rattle.pp_kept_law.proofs.MayComeIn.{may_come_in}

@@ -1,9 +1,9 @@
 -- Before and behind the disk: where nothing is left to leave memory the turn may keep what came, and then decisions come (ours).
 use Rattle.std.specs.Prelude.{◌≡◌, ℕ, List, None}
 use Rattle.pp_cache_law.specs.Kept.{AreAsKept}
-use Rattle.pp_carries_law.specs.Carried.{IsCarried}
 use Rattle.pp_evicting_law.specs.Evicting.{StandsBehind}
 use Rattle.pp_flow_law.specs.Tables.{none_leaves}
+use Rattle.pp_joints_law.specs.Carried.{IsCarried}
 use Rattle.pp_keeping.specs.Keeping.{Keeping as Kept, keeping}
 use Rattle.pp_keeps_law.specs.All.{IsDoneWith}
 use Rattle.pp_keeps_law.specs.Stands.{StandsToKeep}

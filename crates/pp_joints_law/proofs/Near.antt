@@ -1,7 +1,7 @@
 -- What memory that may be left rests on, of what the law has.
 use Rattle.std.proofs.Common.{◌≡◌, ◌≤◌, ◌<◌, refl, sym, ap, ◌∙◌, subst, ℕ, ◌/◌, ◌^◌, zero, suc, Bool, true, false, length, map, find, is_some, List, [], ◌∷◌, Option, Some, None, inl, inr, arith}
 use Rattle.std.specs.Prelude.{IfSome, slice_get}
-use Rattle.pp_carries_law.specs.Leaving.{MemoryMayBeLeft}
+use Rattle.pp_cache_law.proofs.Numbers.{some_is}
 use Rattle.pp_decides_law.proofs.Filled.{closed_in_turn}
 use Rattle.pp_decides_law.proofs.FollowingOn.{has_source, is_next}
 use Rattle.pp_decides_law.specs.Regains.{AllFollow}
@@ -10,6 +10,7 @@ use Rattle.pp_flow.specs.Entries.{Span}
 use Rattle.pp_flow.specs.declared.entry.Entry.{Entry}
 use Rattle.pp_flow_law.proofs.Standing.{IsShown, is_shown}
 use Rattle.pp_flow_law.specs.Tables.{none_leaves}
+use Rattle.pp_joints_law.specs.Leaving.{MemoryMayBeLeft}
 use Rattle.pp_law.specs.Connections.{anew, is_exchange}
 use Rattle.pp_law.specs.Lists.{is_some_with}
 use Rattle.pp_law.specs.Replies.{regained, regained_by}
@@ -40,12 +41,9 @@ use Rattle.pp_turns_law.specs.Nexts.{IsNext}
 use Rattle.pp_turns_law.specs.Turns.{ShowsTurn}
 use Rattle.pp_world.specs.Log.{Log}
 
-some_same : {A : Type 0} (x y : A) → Some x ≡ Some y → x ≡ y
-some_same x y is = cc is
-
 in_place : {A : Type 0} (i : ℕ) (xs : List A) (x : A) → slice_get xs i ≡ Some x → IsIn x xs
 in_place i [] x at = absurd (cc at)
-in_place zero (y ∷ ys) x at = inl (sym (some_same y x at))
+in_place zero (y ∷ ys) x at = inl (sym (some_is y x at))
 in_place (suc i) (y ∷ ys) x at = inr (in_place i ys x at)
 
 in_mapped : {A B : Type 0} (f : A → B) (x : A) (xs : List A) → IsIn x xs → IsIn (f x) (map f xs)
@@ -89,7 +87,7 @@ module _ (terms : List Term) (log : Log) (number : ℕ → ℕ) (peers : List Pe
       one = seat_shown number p.name.items p.seats.items h.clients i seat shows.steps.shows.clients at
 
       same : one.seat ≡ seat
-      same = some_same one.seat seat (sym one.here ∙ at)
+      same = some_is one.seat seat (sym one.here ∙ at)
 
       seen : ShowsSeat number p.name.items [] seat one.client
       seen = subst (λ (x : Seat). ShowsSeat number p.name.items [] x one.client) same one.shows
