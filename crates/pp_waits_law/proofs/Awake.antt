@@ -8,18 +8,14 @@ use Rattle.pp_seats.specs.declared.seat.Seat.{Seat}
 use Rattle.pp_state.specs.Ends.{numbers_of}
 use Rattle.pp_state.specs.Numbers.{places}
 use Rattle.pp_state.specs.declared.state.State.{State}
+use Rattle.pp_waits_law.proofs.Like.{as_many, count_same}
 use Rattle.pp_waits_law.proofs.Rising.{false_true}
+use Rattle.pp_waits_law.proofs.Waited.{grouped}
+use Rattle.pp_waits_law.proofs.Written.{at_end}
 use Rattle.pp_waits_law.specs.Asleep.{AwakeByAndBy, KeepsAwake, LooksAtAll, NobodyWasRead, ReadStay}
 use Rattle.pp_waits_law.specs.Steps.{HasRoom}
 
 -- ---- lists
-
-pub as_many : (seats : List Seat) → length (numbers_of seats) ≡ length seats
-as_many [] = refl
-as_many (seat ∷ seats) = ap suc (as_many seats)
-
-pub count_same : (xs ys : List Seat) → numbers_of xs ≡ numbers_of ys → length xs ≡ length ys
-count_same xs ys same = sym (as_many xs) ∙ ap (λ (ns : List ℕ). length ns) same ∙ as_many ys
 
 in_front : (xs ys : List ℕ) (i : ℕ) → i < length xs → slice_get (xs ++ ys) i ≡ slice_get xs i
 in_front [] ys i less = absurd (omega (arith, less))
@@ -37,22 +33,6 @@ stays_in n (x ∷ xs) ys has = by (x == n) has (λ rest. stays_in n xs ys rest)
 pub none_behind : (xs : List ℕ) → xs ≡ xs ++ []
 none_behind [] = refl
 none_behind (x ∷ xs) = ap (λ (ns : List ℕ). x ∷ ns) (none_behind xs)
-
-grouped : (xs ys zs : List ℕ) → (xs ++ ys) ++ zs ≡ xs ++ (ys ++ zs)
-grouped [] ys zs = refl
-grouped (x ∷ xs) ys zs = ap (λ (ns : List ℕ). x ∷ ns) (grouped xs ys zs)
-
-at_end : (k n : ℕ) (ns : List ℕ) → has_number k (ns ++ n ∷ []) ≡ (has_number k ns || (n == k))
-at_end k n [] = or_none (n == k)
-  where
-    or_none : (b : Bool) → (b || false) ≡ b
-    or_none true = refl
-    or_none false = refl
-at_end k n (m ∷ ns) = ap (λ (b : Bool). (m == k) || b) (at_end k n ns) ∙ group (m == k) (has_number k ns) (n == k)
-  where
-    group : (a b c : Bool) → (a || (b || c)) ≡ ((a || b) || c)
-    group true b c = refl
-    group false b c = refl
 
 -- each place below so many
 in_places : (n k : ℕ) → k < n → has_number k (places n) ≡ true

@@ -11,10 +11,11 @@ use Rattle.pp_seats.specs.declared.seat.Seat.{Seat}
 use Rattle.pp_state.specs.Ends.{AreInOrder, numbers_of, place_of}
 use Rattle.pp_state.specs.Numbers.{places, with_number}
 use Rattle.pp_state.specs.declared.state.State.{State}
-use Rattle.pp_waits_law.proofs.Awake.{all_awake, count_same, stay, then_awake}
+use Rattle.pp_waits_law.proofs.Awake.{all_awake, stay, then_awake}
 use Rattle.pp_waits_law.proofs.Got.{receives}
+use Rattle.pp_waits_law.proofs.Like.{count_same}
 use Rattle.pp_waits_law.proofs.Loads.{loads}
-use Rattle.pp_waits_law.proofs.Rising.{has_with, is_itself}
+use Rattle.pp_waits_law.proofs.Rising.{has_with, is_itself, or_there}
 use Rattle.pp_waits_law.proofs.Ticked.{tick_numbers}
 use Rattle.pp_waits_law.specs.Asleep.{KeepsAwake}
 use Rattle.pp_waits_law.specs.Steps.{CanLook, EventsKeepAwake}
@@ -24,10 +25,6 @@ use Rattle.pp_world.specs.declared.event.Event.TheVariants.{Stop, Tick, Accepted
 
 same : (old new : State) → numbers_of new.seats.items ≡ numbers_of old.seats.items → new.awake ≡ old.awake → KeepsAwake old new
 same old new numbers awake = stay old new numbers (λ i is. ap (λ a. has_number i a.items) awake ∙ is)
-
-or_there : (a b : Bool) → b ≡ true → (a || b) ≡ true
-or_there true b is = refl
-or_there false b is = is
 
 one_more : (n i : ℕ) (ms : List ℕ) → has_number i ms ≡ true → has_number i (with_number n ms) ≡ true
 one_more n i ms is = has_with i n ms ∙ or_there (n == i) (has_number i ms) is

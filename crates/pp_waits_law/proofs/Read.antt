@@ -33,8 +33,9 @@ use Rattle.pp_turns_law.proofs.First.{IsShownAt, client_shown, seat_shown}
 use Rattle.pp_turns_law.proofs.Wanted.{no_more_read as clients_may, reads}
 use Rattle.pp_waits_law.proofs.Others.{any_at, one_more, or_last}
 use Rattle.pp_waits_law.proofs.ReadWritten.{read_written}
+use Rattle.pp_waits_law.proofs.Says.{none_of}
 use Rattle.pp_waits_law.proofs.Waited.{seat_out}
-use Rattle.pp_waits_law.proofs.Wanted.{HasConn, conn_at, end_d, gets_wanted, less_room}
+use Rattle.pp_waits_law.proofs.Wanted.{HasConn, and_off, conn_at, end_d, gets_wanted, less_room}
 use Rattle.pp_waits_law.proofs.Written.{or_none, written as written_down}
 use Rattle.pp_waits_law.specs.Reads.{ClientsAreRead, MayRead, NoMoreIsRead, OriginsAreRead, ReadAreWritten}
 use Rattle.pp_wants.specs.Awaited.{all_got, has_room_on, is_read as is_got, with_got}
@@ -112,14 +113,6 @@ fewer test (seat ∷ seats) = by (test seat) (fewer test seats)
     by : (b : Bool) → length (numbers_of (filter test seats)) ≤ length seats → length (numbers_of (cond b (seat ∷ filter test seats) (filter test seats))) ≤ suc (length seats)
     by true rest = omega (arith, rest)
     by false rest = omega (arith, rest)
-
-and_off : (a : Bool) → (a && false) ≡ false
-and_off true = refl
-and_off false = refl
-
-none_of : (f : Peer → Bool) (ps : List Peer) → ((j : ℕ) (y : Peer) → slice_get ps j ≡ Some y → f y ≡ false) → list_any f ps ≡ false
-none_of f [] none = refl
-none_of f (y ∷ ys) none = ap₂ (λ (a b : Bool). a || b) (none 0 y refl) (none_of f ys (λ j z at. none (suc j) z at))
 
 first_of : (a b : Bool) → (a && b) ≡ true → a ≡ true
 first_of true b is = refl

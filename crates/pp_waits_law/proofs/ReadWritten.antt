@@ -14,14 +14,11 @@ use Rattle.pp_state.proofs.SeatsLemmas.{found-at}
 use Rattle.pp_state.specs.Ends.{AreInOrder, AreSeated, numbers_of, place_of}
 use Rattle.pp_state.specs.Numbers.{with_number}
 use Rattle.pp_state.specs.declared.state.State.{State}
-use Rattle.pp_waits_law.proofs.Awake.{as_many}
+use Rattle.pp_waits_law.proofs.Like.{as_many, none_some}
 use Rattle.pp_waits_law.proofs.Places.{all_there, as_many as all_places, how_many}
-use Rattle.pp_waits_law.proofs.Rising.{false_true, few, has_read, has_with, is_itself, is_same, longer, same_lists}
+use Rattle.pp_waits_law.proofs.Rising.{false_true, few, has_read, has_with, is_itself, is_same, longer, or_there, same_lists}
 use Rattle.pp_waits_law.proofs.Says.{its_test}
 use Rattle.pp_waits_law.specs.Asleep.{LooksAtAll, WereRead}
-
-none_some : {A : Type 0} {x : A} → None ≡ Some x → ⊥
-none_some e = cc e
 
 same_some : {A : Type 0} {x y : A} → Some x ≡ Some y → x ≡ y
 same_some e = cc e
@@ -32,10 +29,6 @@ pub its_number : (seats : List Seat) (i : ℕ) (seat : Seat) → slice_get seats
 its_number [] i seat here = absurd (none_some here)
 its_number (first ∷ seats) zero seat here = ap (λ (x : Seat). Some x.client.id) (same_some here)
 its_number (first ∷ seats) (suc i) seat here = its_number seats i seat here
-
-or_there : (a b : Bool) → b ≡ true → (a || b) ≡ true
-or_there true b is = refl
-or_there false b is = is
 
 pub has_at : (ns : List ℕ) (i n : ℕ) → slice_get ns i ≡ Some n → has_number n ns ≡ true
 has_at [] i n here = absurd (none_some here)

@@ -19,6 +19,10 @@ other n m less = grind (arith, nat_tests, less)
 pub false_true : {b : Bool} → b ≡ false → b ≡ true → ⊥
 false_true {b} isnt is = let same : false ≡ true = sym isnt ∙ is in cc same
 
+pub or_there : (a b : Bool) → b ≡ true → (a || b) ≡ true
+or_there true b is = refl
+or_there false b is = is
+
 idem : (x r : Bool) → (x || r) ≡ (x || (x || r))
 idem true r = refl
 idem false r = refl

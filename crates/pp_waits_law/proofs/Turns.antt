@@ -10,8 +10,9 @@ use Rattle.pp_proxy.specs.Moving.{LeadsOn, Moving, Turning}
 use Rattle.pp_proxy.specs.Settling.{Settles}
 use Rattle.pp_state.specs.Ends.{AreInOrder, AreSeated, numbers_of}
 use Rattle.pp_state.specs.declared.state.State.{State}
-use Rattle.pp_waits_law.proofs.Awake.{count_same, read_stay, stay, then_awake}
+use Rattle.pp_waits_law.proofs.Awake.{read_stay, stay, then_awake}
 use Rattle.pp_waits_law.proofs.Events.{handled}
+use Rattle.pp_waits_law.proofs.Like.{count_same}
 use Rattle.pp_waits_law.proofs.Rounds.{settles}
 use Rattle.pp_waits_law.specs.Asleep.{KeepsAwake, WereRead}
 use Rattle.pp_waits_law.specs.Steps.{CanGoOn, CanTake, HasRoom, KeepingKeepsAwake, LeavingKeepsAwake, ReadStayToNextWait, TurnsKeepAwake}

@@ -22,15 +22,13 @@ use Rattle.pp_state.specs.Ends.{AreInOrder, AreSeated, Parts, numbers_of, parts}
 use Rattle.pp_state.specs.Numbers.{with_number, with_read_by}
 use Rattle.pp_state.specs.declared.state.State.{State as Turn}
 use Rattle.pp_waits_law.proofs.Left.{wants_leave}
+use Rattle.pp_waits_law.proofs.Like.{none_some}
 use Rattle.pp_waits_law.proofs.Rested.{rests_as_law}
 use Rattle.pp_waits_law.specs.Rests.{HasRested, StandBehind, StandsLoud}
 use Rattle.pp_waits_law.specs.Waits.{ClientsStandFirst, HasWaited, IsApart, MayWait, WaitsLead}
 use Rattle.pp_wants.specs.Awaited.{all_got, is_read as is_got, with_got}
 use Rattle.pp_world.specs.declared.event.Wants.{Wants}
 use Rattle.pp_world.specs.declared.happening.Happening.TheVariants.{Waits}
-
-none_some : {A : Type 0} {x : A} → None ≡ Some x → ⊥
-none_some e = absurd (cc e)
 
 -- ---- origins come behind
 
@@ -50,7 +48,7 @@ nothing : (ms : List ℕ) → ms ≡ ms ++ []
 nothing [] = refl
 nothing (m ∷ ms) = ap (λ (ns : List ℕ). m ∷ ns) (nothing ms)
 
-grouped : (xs ys zs : List ℕ) → (xs ++ ys) ++ zs ≡ xs ++ (ys ++ zs)
+pub grouped : (xs ys zs : List ℕ) → (xs ++ ys) ++ zs ≡ xs ++ (ys ++ zs)
 grouped [] ys zs = refl
 grouped (x ∷ xs) ys zs = ap (λ (ns : List ℕ). x ∷ ns) (grouped xs ys zs)
 
