@@ -1,10 +1,11 @@
 -- Where replies end, clients at other places stay as they are, and connections keep their numbers.
-use Rattle.std.proofs.Common.{◌≡◌, refl, sym, subst, ap, ◌∙◌, ℕ, Bool, true, false, ◌==◌, ◌||◌, cond, List, [], ◌∷◌, Option, Some, None, option_map}
+use Rattle.std.proofs.Common.{◌≡◌, refl, sym, subst, ap, ◌∙◌, ℕ, Bool, true, false, ◌==◌, cond, List, [], ◌∷◌, Option, Some, None, option_map}
 use Rattle.std.specs.Prelude.{slice_get, slice_set}
 use Rattle.pp_decides_law.proofs.Regained.{get_other}
 use Rattle.pp_desk.proofs.ClosingLemmas.{unasked_numbers}
 use Rattle.pp_desk.specs.Closings.{Sides, closed_client, closing_at, left_at, left_by_errand, left_own, peer_numbers, place_on, unasked_at, with_parts, withdrawn}
 use Rattle.pp_desk.specs.Replies.{EndsBy, EndsReplies, EndsSaid, EndsSaidOf, EndsWhere, IsLookedAt, account_renewed, at_next, closes_in, is_finished_in, without_finished, without_finished_at}
+use Rattle.pp_events_law.proofs.Lists.{first_off, rest_off}
 use Rattle.pp_flow.specs.Changes.{entry_of}
 use Rattle.pp_flow.specs.declared.entry.Exchange.{Exchange}
 use Rattle.pp_flow.specs.declared.errand.Errand.{Errand}
@@ -118,14 +119,6 @@ ends_of i x z is =
 pub record AreBeside (is : List ℕ) (x z : Sides) : Type 0 where
   pub others : (j : ℕ) → has_number j is ≡ false → slice_get z.parts.seats j ≡ slice_get x.parts.seats j
   pub peers : peer_numbers z.peers ≡ peer_numbers x.peers
-
-first_off : (a b : Bool) → (a || b) ≡ false → a ≡ false
-first_off true b none = absurd (cc none)
-first_off false b none = refl
-
-rest_off : (a b : Bool) → (a || b) ≡ false → b ≡ false
-rest_off true b none = absurd (cc none)
-rest_off false b none = none
 
 one_more : (i : ℕ) (is : List ℕ) (x y z : Sides) → IsBeside i x y → AreBeside is y z → AreBeside (i ∷ is) x z
 one_more i is x y z one rest = record {

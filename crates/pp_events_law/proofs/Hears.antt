@@ -1,22 +1,21 @@
 -- A client is read, and the turn stands behind what it brought.
-use Rattle.std.proofs.Common.{◌≡◌, ◌≤◌, ◌<◌, refl, sym, subst, ap, ap₂, ◌∙◌, ℕ, zero, suc, Bool, true, false, ◌&&◌, cond, find, length, length-take-le, min, nat_lt, take, is_some, List, [], ◌∷◌, Option, Some, None, Ok, Err, map, arith}
+use Rattle.std.proofs.Common.{◌≡◌, ◌≤◌, ◌<◌, refl, sym, subst, ap, ap₂, ◌∙◌, ℕ, zero, suc, Bool, true, ◌&&◌, find, length, length-take-le, min, nat_lt, take, is_some, List, [], ◌∷◌, Option, Some, None, Ok, Err, arith}
 use Rattle.std.proofs.lemmas.Bool.Decides.{nat_tests}
 use Rattle.std.specs.Prelude.{slice_get, slice_set, IfOk, IfSome}
 use Rattle.pp_cache.specs.Bounds.{IsBounded}
 use Rattle.pp_cache_law.proofs.Numbers.{is_same, some_is}
 use Rattle.pp_client.specs.Requests.{room_of}
 use Rattle.pp_clients_obey.proofs.Hears.{hang_ups_lead, nones_lead, reads_lead}
-use Rattle.pp_clients_obey.proofs.Walks.{Rests, close_none, end_none, rests}
 use Rattle.pp_clients_obey.specs.Hearing.{HasCome, OwesRead, Sits, hung_up}
 use Rattle.pp_desk.specs.Calls.{Found, read_log}
 use Rattle.pp_desk.specs.Closings.{Sides, sides}
 use Rattle.pp_desk.specs.declared.desk.Desk.{Desk}
 use Rattle.pp_flow_law.specs.Tables.{none_leaves}
 use Rattle.pp_law.specs.After.{paid}
-use Rattle.pp_law.specs.Connections.{client, each_client, is_client, on_client}
+use Rattle.pp_law.specs.Connections.{client, on_client}
 use Rattle.pp_law.specs.Hearing.{heard_by}
 use Rattle.pp_law.specs.Lists.{Bytes}
-use Rattle.pp_law.specs.Replies.{close_finished, end_replies, end_said}
+use Rattle.pp_law.specs.Replies.{end_replies}
 use Rattle.pp_law.specs.State.{State, Client, Handling, ReadOf}
 use Rattle.pp_laws_turn.specs.SoundTurn.{IsSoundTurn}
 use Rattle.pp_links.specs.Links.{has_link, is_link}
@@ -49,39 +48,11 @@ use Rattle.pp_events_law.proofs.Calls.{is_linked, its_side, told_as}
 use Rattle.pp_events_law.proofs.Ends.{end_handled, end_ready}
 use Rattle.pp_events_law.proofs.Heard.{IsSameReply, client_may, heard_follows, heard_through, hung_through, read_same}
 use Rattle.pp_events_law.proofs.Left.{IsLeft, left_as, read_left}
+use Rattle.pp_events_law.proofs.Rests.{all_rest, none_ends}
 use Rattle.pp_events_law.proofs.Touched.{client_link}
-use Rattle.pp_events_law.specs.Hears.{AreSettled, HearingsLead, MayHear}
+use Rattle.pp_events_law.specs.Hears.{HearingsLead, MayHear}
 use Rattle.pp_events_law.specs.Ready.{HasLedReady, StaysReady}
 use Rattle.pp_events_law.specs.Stands.{AreReadyAt, IsHandled, StandsAtEvent}
-
--- ---- of the law: where no reply is over, and nobody is finished, nothing ends
-
-none_each : (f : Client → State → State) (s : State) → ((n : ℕ) (c : Client) → client s n ≡ Some c → f c s ≡ s) → (ns : List ℕ) → each_client f ns s ≡ s
-unfolding each_client
-none_each f s none [] = refl
-none_each f s none (n ∷ ns) = ap (λ (t : State). each_client f ns t) (by (client s n) refl) ∙ none_each f s none ns
-  where
-    by : (o : Option Client) → client s n ≡ o → (elim o as (λ c. State) [ None ↦ s | Some c ↦ f c s ]) ≡ s
-    by None is = refl
-    by (Some c) is = none n c is
-
-none_ends : (s : State) → ((n : ℕ) (c : Client) → client s n ≡ Some c → Rests c) → end_replies s ≡ s
-unfolding end_replies
-none_ends s all =
-    ap (λ (t : State). each_client close_finished (map (λ (c : Client). c.number) s.clients) t) (none_each end_said s (λ n c there. end_none c s (all n c there).said) (map (λ (c : Client). c.number) s.clients))
-    ∙ none_each close_finished s (λ n c there. close_none c s (all n c there).finished) (map (λ (c : Client). c.number) s.clients)
-
-module _ (number : ℕ → ℕ) (name : Bytes) where
-  -- each client is shown by a seat that is settled
-  all_rest : (seats : List Seat) (cs : List Client) → AreShown number name [] seats cs → AreSettled seats → (n : ℕ) (c : Client) → find (is_client n) cs ≡ Some c → Rests c
-  all_rest [] [] shown settled n c there = absurd (cc there)
-  all_rest [] (d ∷ cs) shown settled n c there = absurd shown
-  all_rest (seat ∷ seats) [] shown settled n c there = absurd shown
-  all_rest (seat ∷ seats) (d ∷ cs) shown settled n c there = by (is_client n d) there (λ found. all_rest seats cs shown.1 (λ j other at. settled (suc j) other at) n c found)
-    where
-      by : (b : Bool) → cond b (Some d) (find (is_client n) cs) ≡ Some c → (find (is_client n) cs ≡ Some c → Rests c) → Rests c
-      by true found rest = subst (λ (o : Client). Rests o) (some_is d c found) (rests number name [] seat d shown.0 (settled 0 seat refl))
-      by false found rest = rest found
 
 set_same : (i : ℕ) (seats : List Seat) (seat : Seat) → slice_get seats i ≡ Some seat → slice_set seats i seat ≡ seats
 set_same i [] seat here = refl

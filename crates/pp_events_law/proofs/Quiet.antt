@@ -15,6 +15,7 @@ use Rattle.pp_endings_law.proofs.Kept.{KeepsNumber, find_other}
 use Rattle.pp_endings_law.proofs.Left.{with_seats}
 use Rattle.pp_endings_law.proofs.Nothing.{over_same, unsaid_end}
 use Rattle.pp_events_law.proofs.Beside.{IsBeside, ends_of}
+use Rattle.pp_events_law.proofs.Lists.{first_off, rest_off}
 use Rattle.pp_events_law.proofs.Rests.{none_each}
 use Rattle.pp_flow_law.specs.Tables.{AreGiven}
 use Rattle.pp_law.specs.Connections.{client, each_client, is_client, on_client}
@@ -127,14 +128,6 @@ off i j is = by (i == j) refl
     by : (b : Bool) → (i == j) ≡ b → b ≡ false
     by false same = refl
     by true same = absurd (let both : true ≡ false = sym (same_test j i (sym (is_same i j same))) ∙ is in cc both)
-
-first_off : (a b : Bool) → (a || b) ≡ false → a ≡ false
-first_off true b none = absurd (cc none)
-first_off false b none = refl
-
-rest_off : (a b : Bool) → (a || b) ≡ false → b ≡ false
-rest_off true b none = absurd (cc none)
-rest_off false b none = none
 
 abbrev pub QuietBut : ℕ → Sides → Type 0
 QuietBut i x = (j : ℕ) → (i == j) ≡ false → QuietAt j x

@@ -2,11 +2,15 @@ pub mod Anew
 pub mod Asks
 pub mod Breaks
 pub mod Hears
+pub mod Loads
+pub mod Losses
 pub mod Readable
+pub mod ReadsBack
 pub mod Ready
 pub mod Sayable
 pub mod Says
 pub mod Silent
 pub mod Stands
+pub mod ToLoad
 pub mod Woken
 pub mod Writable

@@ -12,11 +12,19 @@
 //! was said are the ones used last; behind the last bytes the reply is over, and the next request stands or the client is closed; or the
 //! write fails, and the client is lost. `specs/Sayable.antt` has the same from the wait on.
 //!
-//! Not said: the read of a chunk from the disk before a write; a read of an origin; and a client that comes for which there is no memory.
+//! `specs/ToLoad.antt` is what stands where a client is written to whose next byte is on the disk alone: the turn shows the law's state, the
+//! shelf the law's entries, and nothing was begun on the disk. Its chunk is read back (`specs/ReadsBack.antt`): that it was may be noted, the
+//! bytes are those that the law puts into memory, and behind it the turn shows the law's state, with the write still owed and some of what is
+//! next at hand. Or it cannot be read (`specs/Losses.antt`): that stands for the write; its name is closed, the entry is noted as gone, and
+//! the turn shows the law's state without it. `specs/Loads.antt` has the whole write: behind the read it is one with nothing to be read
+//! before; or nothing is said, and the event is handled. Where a read failed the law is at the disk already, and the program in the event:
+//! the phases between are left in the law, in which nothing has to leave memory.
+//!
+//! Not said: a read of an origin, which is in `pp_reads_law`; and a client that comes for which there is no memory.
 //!
 //! To the layer above: each is the clause of a function that does nothing. It is one part of the proof that the program
 //! obeys the law: nothing is said here of a turn in which memory was refused for a row. The words of the program stand in `pp_proxy`,
-//! whose `handle` says of each event what it does.
+//! whose `handle` says of each event what it does, and those of the read of a chunk in `pp_talk` (`load_and_say`).
 //!
 //! Takes no memory, and does nothing when the program runs.
 #![tactic(auto)]
@@ -24,6 +32,7 @@
 mod asking; // an origin is asked
 mod behind; // attempts count anew
 mod breaking; // a connection to an origin breaks
+mod loading; // a chunk is read back before a write
 mod owing; // a read or a write is owed
 mod reading; // a client is read
 mod saying; // a client is written to
@@ -32,6 +41,7 @@ mod silent; // events that add nothing to the log
 pub use asking::origins_are_asked_as_by_the_law;
 pub use behind::attempts_count_behind_events_as_by_the_law;
 pub use breaking::connections_break_as_by_the_law;
+pub use loading::{chunks_are_read_back_as_by_the_law, writes_lead_behind_reads_as_by_the_law};
 pub use owing::{clients_are_owed_as_by_the_law, origins_are_owed_as_by_the_law};
 pub use reading::clients_are_heard_as_by_the_law;
 pub use saying::writes_to_clients_lead_as_by_the_law;

@@ -34,11 +34,11 @@ use Rattle.pp_states_law.proofs.Alone.{piped as pipe_is}
 use Rattle.pp_states_law.proofs.ReadOn.{readings}
 use Rattle.pp_states_law.specs.Gots.{IsAmidHead}
 use Rattle.pp_states_law.specs.States.{ShowsState}
-use Rattle.pp_steps_law.specs.Steps.{ShowsSteps, whole}
+use Rattle.pp_steps_law.specs.Steps.{whole}
 use Rattle.pp_store.specs.Kept.{KeptMap}
 use Rattle.pp_reads_law.proofs.Amid.{pipe_twice, set_may}
 use Rattle.pp_reads_law.proofs.Awaited.{final_is, head_steps}
-use Rattle.pp_reads_law.proofs.Gotten.{heads_got}
+use Rattle.pp_reads_law.proofs.Gotten.{heads_got, sides_at}
 use Rattle.pp_reads_law.proofs.Passing.{interims}
 use Rattle.pp_reads_law.specs.Amid.{ShowsRead}
 use Rattle.pp_reads_law.specs.Awaits.{HeadFails, HeadIsThere, WaitsForMore, text_of}
@@ -46,9 +46,6 @@ use Rattle.pp_reads_law.specs.Gots.{GoesOnBehind, StopsThere}
 use Rattle.pp_reads_law.specs.Heads.{HeadIsDue, ShowsBoth, with_head}
 use Rattle.pp_reads_law.specs.Interims.{IsClearedTo, IsPassedTo}
 use Rattle.pp_reads_law.specs.Clears.{HeadIsGotThere, HeadsAreGotThere, StandsBefore}
-
-pub sides_at : (number : ℕ → ℕ) (shelf : KeptMap) (y : Both) (t : State) → ShowsBoth number shelf y t → ShowsSides number t.settings.name (sides_of y) t
-sides_at number shelf y t shows = record { steps = subst (λ (own : Bytes). ShowsSteps number own none_leaves y.peers (parts y.state) t) shows.read.turn.name shows.read.turn.steps; may = shows.may }
 
 -- ---- where nothing but what precedes it is dropped, all stands as before
 

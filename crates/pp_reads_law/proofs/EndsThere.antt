@@ -76,10 +76,6 @@ empty_or_going ToEnd = inl refl
 
 -- ---- no data come of it
 
-drop_front : (xs ys : Bytes) → drop (length xs) (xs ++ ys) ≡ ys
-drop_front [] ys = refl
-drop_front (x ∷ xs) ys = drop_front xs ys
-
 some_data : (bytes : Bytes) (from to : ℕ) (more : Bytes) → from < to → to ≤ length bytes → [] ≡ slice_range bytes from to ++ more → ⊥
 some_data bytes from to more some within is =
     absurd

@@ -46,7 +46,7 @@ use Rattle.pp_reads_law.specs.Interims.{IsClearedTo, IsPassedTo}
 
 -- ---- nothing is got on a connection that is closing
 
-closed_got : (m n : ℕ) (bytes : Bytes) (t : State) → ((j : Conn) → conn t n ≡ Some j → j.is_closing ≡ true) → got m n bytes t ≡ t
+pub closed_got : (m n : ℕ) (bytes : Bytes) (t : State) → ((j : Conn) → conn t n ≡ Some j → j.is_closing ≡ true) → got m n bytes t ≡ t
 unfolding got
 closed_got zero n bytes t closes = refl
 closed_got (suc m) n bytes t closes = by (conn t n) refl
@@ -60,7 +60,7 @@ closing_shown number name z t n p shows there closes j is =
     let one : HasPeer t n z.peers j = linked t n z.peers t.conns j is shows.steps.shows.conns in
     sym one.shows.is_closing ∙ ap (λ (q : Peer). q.is_closing) (some_is one.peer p (sym one.there ∙ there)) ∙ closes
 
-sides_at : (number : ℕ → ℕ) (shelf : KeptMap) (y : Both) (t : State) → ShowsBoth number shelf y t → ShowsSides number t.settings.name (sides_of y) t
+pub sides_at : (number : ℕ → ℕ) (shelf : KeptMap) (y : Both) (t : State) → ShowsBoth number shelf y t → ShowsSides number t.settings.name (sides_of y) t
 sides_at number shelf y t shows = record { steps = subst (λ (own : Bytes). ShowsSteps number own none_leaves y.peers (parts y.state) t) shows.read.turn.name shows.read.turn.steps; may = shows.may }
 
 -- ---- where nothing but what precedes it is dropped, all stands as before

@@ -1,5 +1,5 @@
 -- A read that goes on within a body: each step of its pipe, and all of them up to the end of the body or of the read.
-use Rattle.std.proofs.Common.{◌≡◌, ◌⊎◌, inl, inr, ◌≤◌, ◌<◌, refl, sym, subst, ap, ap₂, ◌∙◌, ℕ, zero, suc, ◌+◌, Bool, true, false, cond, drop, find, length, List, [], ◌∷◌, ◌++◌, Option, Some, None, arith}
+use Rattle.std.proofs.Common.{◌≡◌, ◌⊎◌, inl, inr, ◌≤◌, ◌<◌, refl, sym, subst, ap, ap₂, ◌∙◌, ℕ, zero, suc, ◌+◌, Bool, true, false, cond, drop, drop_at, find, length, List, [], ◌∷◌, ◌++◌, Option, Some, None, arith}
 use Rattle.std.proofs.lemmas.List.{length-drop}
 use Rattle.std.specs.Prelude.{option_map, slice_range}
 use Rattle.pp_cache_law.proofs.Finds.{find_passes}
@@ -53,10 +53,6 @@ use Rattle.pp_reads_law.specs.Pieces.{BodiesAreReadAsTheLaws, GoesOnAmid, IsAmid
 use Rattle.pp_reads_law.specs.Wholes.{IsAnsweredOn, line_behind}
 
 -- ---- bytes
-
-drop_front : (xs ys : Bytes) → drop (length xs) (xs ++ ys) ≡ ys
-drop_front [] ys = refl
-drop_front (x ∷ xs) ys = drop_front xs ys
 
 fewer_left : (n : ℕ) (xs : Bytes) → 1 ≤ n → n ≤ length xs → length (drop n xs) < length xs
 fewer_left n xs some within = omega (arith, length-drop n xs, some, within)
@@ -208,7 +204,7 @@ module _ (number : ℕ → ℕ) (name : Bytes) (x : Both) (s : State) (n : ℕ) 
     goes = ap (λ (o : Option Peer). going_on o) peer_here ∙ ap (λ (b : Bool). cond b None (Some here_peer)) own_open
 
     data_is : (body : Body) → body_of a.rule (a.raw ++ bytes) ≡ body → body.payload ≡ payload_of a ++ here.came → data_in a bytes ≡ here.came
-    data_is body is payload = ap (λ (b : Body). drop at b.payload) is ∙ ap (λ (bs : Bytes). drop at bs) payload ∙ drop_front (payload_of a) here.came
+    data_is body is payload = ap (λ (b : Body). drop at b.payload) is ∙ ap (λ (bs : Bytes). drop at bs) payload ∙ drop_at (payload_of a) here.came (length (payload_of a)) refl
 
     abbrev Result : Type 0
     Result = GoesOnAmid x next n peer a bytes here behind ⊎ PieceIsOver number name next s k a bytes behind
@@ -245,7 +241,7 @@ module _ (number : ℕ → ℕ) (name : Bytes) (x : Both) (s : State) (n : ℕ) 
         let body : Body = record { payload = payload_of a ++ here.came; outcome = Done (drop used here.bytes) } in
         let same : data_in a bytes ≡ here.came = data_is body read.body refl in
         over (record { state = finish k e a (then_by here.came); rest = drop used here.bytes })
-        (piece_with body read.body ∙ ap (λ (bs : Bytes). let p : Piece = record { state = finish k e a (then_by bs); rest = drop used here.bytes } in p) (drop_front (payload_of a) here.came))
+        (piece_with body read.body ∙ ap (λ (bs : Bytes). let p : Piece = record { state = finish k e a (then_by bs); rest = drop used here.bytes } in p) (drop_at (payload_of a) here.came (length (payload_of a)) refl))
         (subst (λ (y : Sides). ShowsSides number name y (finish k e a (then_by here.came)))
         (sym (takes.makes.is ∙ ap (λ (ps : List Peer). response_whole n (let y : Sides = record { parts = parts takes.between; peers = ps } in y)) (fed_is End left fed is ∙ line_same)))
         (ends_shown here.came takes.between same may (came_at here.came takes.between takes.delivers)))
@@ -261,7 +257,7 @@ module _ (number : ℕ → ℕ) (name : Bytes) (x : Both) (s : State) (n : ℕ) 
         let body : Body = record { payload = payload_of a ++ here.came; outcome = NoBody } in
         let same : data_in a bytes ≡ here.came = data_is body read.body refl in
         over (record { state = law_bad_response k (then_by here.came); rest = [] })
-        (piece_with body read.body ∙ ap (λ (bs : Bytes). let p : Piece = record { state = law_bad_response k (then_by bs); rest = [] } in p) (drop_front (payload_of a) here.came))
+        (piece_with body read.body ∙ ap (λ (bs : Bytes). let p : Piece = record { state = law_bad_response k (then_by bs); rest = [] } in p) (drop_at (payload_of a) here.came (length (payload_of a)) refl))
         (subst (λ (y : Sides). ShowsSides number name y (law_bad_response k (then_by here.came)))
         (sym (takes.makes.is ∙ ap (λ (ps : List Peer). bad_response n (let y : Sides = record { parts = parts takes.between; peers = ps } in y)) (fed_is Bad left fed is)))
         (bad_shown here.came takes.between same may (came_at here.came takes.between takes.delivers) (stepped Bad left line)))
@@ -270,7 +266,7 @@ module _ (number : ℕ → ℕ) (name : Bytes) (x : Both) (s : State) (n : ℕ) 
         let body : Body = record { payload = payload_of a ++ here.came; outcome = Going } in
         let same : data_in a bytes ≡ here.came = data_is body read.body refl in
         over (record { state = on_conn k.number (with_raw a bytes) (then_by here.came); rest = [] })
-        (piece_with body read.body ∙ ap (λ (bs : Bytes). let p : Piece = record { state = on_conn k.number (with_raw a bytes) (then_by bs); rest = [] } in p) (drop_front (payload_of a) here.came))
+        (piece_with body read.body ∙ ap (λ (bs : Bytes). let p : Piece = record { state = on_conn k.number (with_raw a bytes) (then_by bs); rest = [] } in p) (drop_at (payload_of a) here.came (length (payload_of a)) refl))
         (subst (λ (ps : List Peer). ShowsSides number name (record { parts = parts next.state; peers = ps }) (on_conn k.number (with_raw a bytes) (then_by here.came))) (sym (takes.1 ∙ fed_is Idle left fed is))
         (goes_on_shown here.came next.state same may (came_at here.came next.state takes.0) left read.shows))
         (subst (λ (o : Option Remains). LeavesBytes o []) (sym leaves) refl)

@@ -19,9 +19,9 @@ use Rattle.pp_peers_law.specs.Peers.{ShowConns}
 use Rattle.pp_pipe.specs.declared.step.Step.{Step}
 use Rattle.pp_pipe.specs.declared.step.Step.TheVariants.{Head, Body as BodyStep, End, Bad, Idle}
 use Rattle.pp_store.specs.Kept.{KeptMap}
-use Rattle.pp_text.specs.Bytes.{is_empty}
 use Rattle.pp_reads_law.proofs.Amid.{begins, got_step, pieces_got}
 use Rattle.pp_reads_law.proofs.Early.{early_steps}
+use Rattle.pp_reads_law.proofs.Gotten.{closed_got}
 use Rattle.pp_reads_law.proofs.Nothing.{empty_steps}
 use Rattle.pp_reads_law.proofs.ReadOn.{steps}
 use Rattle.pp_reads_law.specs.Awaits.{ComesEarly}
@@ -52,15 +52,6 @@ got_nothing (suc m) n t = by (conn t n)
     by : (o : Option Conn) → (elim o as (λ u. State) [ None ↦ t | Some j ↦ elim (j.is_closing || true) as (λ u. State) [ true ↦ t | false ↦ got m n (next_piece j [] t).rest (next_piece j [] t).state ] ]) ≡ t
     by None = refl
     by (Some j) = stop j j.is_closing
-
-closed_got : (m n : ℕ) (bytes : Bytes) (t : State) → ((j : Conn) → conn t n ≡ Some j → j.is_closing ≡ true) → got m n bytes t ≡ t
-unfolding got
-closed_got zero n bytes t closes = refl
-closed_got (suc m) n bytes t closes = by (conn t n) refl
-  where
-    by : (o : Option Conn) → conn t n ≡ o → (elim o as (λ u. State) [ None ↦ t | Some j ↦ elim (j.is_closing || is_empty bytes) as (λ u. State) [ true ↦ t | false ↦ got m n (next_piece j bytes t).rest (next_piece j bytes t).state ] ]) ≡ t
-    by None is = refl
-    by (Some j) is = ap (λ (b : Bool). elim (b || is_empty bytes) as (λ u. State) [ true ↦ t | false ↦ got m n (next_piece j bytes t).rest (next_piece j bytes t).state ]) (closes j is)
 
 -- ---- of the program
 

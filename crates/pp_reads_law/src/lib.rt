@@ -1,4 +1,5 @@
-//! What a read of an origin brings is what the law has it bring, step by step of its pipe and piece by piece of the law.
+//! What a read of an origin brings is what the law has it bring, step by step of its pipe and piece by piece of the law; and the event of an origin
+//! that can be read leads where the law leads, with the turn behind it.
 //!
 //! `specs/Rows.antt` has the row that is kept of the key of an exchange come into memory beside the head of its response, and another leave for
 //! it, which is to be noted. `Heads` joins the final head: it is taken as the law takes it, or refused. `Data` says where the data of a response
@@ -9,12 +10,16 @@
 //! a body that finds no byte left. `Reads` joins all of them, by induction over the steps of the pipe: a whole read, from its first byte to
 //! its last, where what each piece rests on is supplied by whatever holds from one to the next. `Amid` is the relation.
 //!
-//! Not said: that something supplies it, which `pp_origin_reads_law` joins; a head to the ask of a follower, and one that is passed and names
-//! other places; and the replies that end behind a read, which are in `pp_endings_law`. Nor is anything said where memory was
-//! refused for a row.
+//! `Readable` has the event, from where the read is owed and from the wait on: nothing came yet, the connection ended or broke, or bytes came.
+//! Behind what came replies that are over end, and attempts count anew. `Brings` says what each piece of the bytes rests on, beside what a turn
+//! shows, `Goes` that who is answered can go on to the next request, and `Stays` what a read leaves as it was of clients, of connections, and of
+//! what the turn knows beside them.
+//!
+//! Not said: a head to the ask of a follower, and one that is passed and names other places; and which replies end behind a read, which is in
+//! `pp_endings_law`. Nor is anything said of a turn in which memory was refused for a row.
 //!
 //! To the layer above: each is the clause of a function that does nothing. It is one part of the proof that the program obeys the law. The
-//! words of the program stand in `pp_origins` and `pp_due`, which say of each function which it computes.
+//! words of the program stand in `pp_origins`, `pp_due` and `pp_proxy`, which say of each function which it computes.
 //!
 //! Takes no memory, and does nothing when the program runs.
 #![tactic(auto)]
@@ -24,11 +29,13 @@ mod bads; // what is no response, or comes too early
 mod clears; // a head that came, with what stands before it
 mod data; // data of a response
 mod empties; // the end of an empty body
+mod getting; // an origin is read, and replies that are over end
 mod heads; // the final head of a response
 mod pauses; // no byte is left amid a body
 mod pieces; // what a read brings amid a body
 mod reads; // a whole read
 mod rows; // the row that is kept of the key of an exchange
+mod staying; // what a read leaves as it was
 mod wholes; // a response is whole
 
 pub use awaits::{
@@ -38,9 +45,11 @@ pub use bads::bad_responses_are_the_laws;
 pub use clears::heads_are_got_there;
 pub use data::data_come_as_the_laws;
 pub use empties::empty_bodies_end_as_the_laws;
+pub use getting::origins_are_read_as_by_the_law;
 pub use heads::heads_come_as_the_laws;
 pub use pauses::pauses_change_nothing;
 pub use pieces::bodies_are_read_as_the_laws;
 pub use reads::reads_are_got_as_the_laws;
 pub use rows::rows_are_brought_as_the_laws;
+pub use staying::reads_leave_clients_at_their_requests;
 pub use wholes::whole_responses_end_as_the_laws;

@@ -1,4 +1,0 @@
-pub mod Stands
-pub mod Reads
-pub mod Losses
-pub mod Writes

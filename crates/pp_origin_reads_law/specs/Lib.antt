@@ -1,4 +1,0 @@
-pub mod Brings
-pub mod Goes
-pub mod Readable
-pub mod Stays

@@ -1,0 +1,143 @@
+-- What each moment of a read rests on supplies what each of its pieces does.
+use Rattle.std.proofs.Common.{◌≡◌, ◌⊎◌, inl, inr, refl, sym, subst, ap, ◌∙◌, ℕ, suc, false, find, length, [], ◌∷◌, Option}
+use Rattle.pp_closings_law.specs.Sides.{ShowsSides}
+use Rattle.pp_events_law.proofs.Standing.{HasWords, turn_by}
+use Rattle.pp_flow_law.specs.Tables.{none_leaves}
+use Rattle.pp_law.specs.Lists.{Bytes}
+use Rattle.pp_law.specs.Responses.{body_piece, head_came}
+use Rattle.pp_law.specs.State.{State, Answer, Conn, Exchange}
+use Rattle.pp_obeys.proofs.Frames.{Frame, Stays, frame, frame_of, stays}
+use Rattle.pp_origins.specs.Gots.{Both, GotFrom, IsStepOn, Remains, going_on, remaining, sides_of}
+use Rattle.pp_peers.specs.Peers.{is_number}
+use Rattle.pp_peers.specs.declared.peers.Peer.{Peer}
+use Rattle.pp_reads_law.specs.Bads.{IsOpen}
+use Rattle.pp_reads_law.specs.Clears.{HeadIsGot, StandsBefore}
+use Rattle.pp_reads_law.specs.Heads.{with_head}
+use Rattle.pp_reads_law.specs.Pieces.{IsAmidBody, IsWithinBody, PieceIsOver}
+use Rattle.pp_reads_law.specs.Reads.{StandsThere, Supplies, SuppliesHead}
+use Rattle.pp_state.specs.Ends.{parts}
+use Rattle.pp_state.specs.Lines.{first_on}
+use Rattle.pp_state.specs.declared.state.State.{State as Turn}
+use Rattle.pp_steps_law.specs.Steps.{ShowsSteps}
+use Rattle.pp_store.specs.Kept.{KeptMap}
+use Rattle.pp_reads_law.proofs.Calm.{head_given}
+use Rattle.pp_reads_law.proofs.Framed.{framed_by, none_framed, piece_framed}
+use Rattle.pp_reads_law.proofs.Knows.{knows_same, knows_then}
+use Rattle.pp_reads_law.proofs.StayReads.{head_stays, reads_stay, step_stays}
+use Rattle.pp_reads_law.specs.Brings.{HeadRestsOn, IsBehindHead, IsBehindPiece, IsMoment, LeadsTo, ReadRestsOn, RestsOn}
+use Rattle.pp_reads_law.specs.Stays.{KnowsAsMuch}
+
+module _ (name : Bytes) (shelf : KeptMap) (n : ℕ) (begins : Both) (from : State) (all : Bytes) (words : HasWords begins.state from) (own : begins.state.name.items ≡ name) (ends : Both) (calm : ends.state.is_astray ≡ false) (rests : ReadRestsOn name shelf n begins from all ends) where
+  -- a moment, and what the turn and the law know at it is what they knew where the read began
+  pub record Moment (x : Both) (s : State) (bytes : Bytes) : Type 0 where
+    pub pieces : ℕ
+    pub is : IsMoment pieces name shelf n begins from all x s bytes
+    pub knows : KnowsAsMuch begins.state x.state
+    pub framed : Stays false (frame false from) s
+    pub leads : LeadsTo shelf n x ends
+
+  on : (x : Both) (s : State) (bytes : Bytes) → Moment x s bytes → RestsOn shelf n ends x s bytes
+  on x s bytes m = rests m.pieces x s bytes m.is m.leads
+
+  pub first : LeadsTo shelf n begins ends → Moment begins from all
+  unfolding IsMoment
+  first leads = record { pieces = 0; is = (refl, refl, refl); knows = knows_same begins.state; framed = stays refl; leads = leads }
+
+  -- ---- what the turn shows
+
+  of_frame : {A : Type 0} (g : Frame → A) (s : State) → Stays false (frame false from) s → g (frame false from) ≡ g (frame false s)
+  of_frame g s framed = ap g (sym (frame_of framed))
+
+  words_at : (x : Both) (s : State) → KnowsAsMuch begins.state x.state → Stays false (frame false from) s → HasWords x.state s
+  words_at x s knows framed = record {
+    name = knows.name ∙ words.name ∙ of_frame (λ f. f.settings.name) s framed;
+    shares = knows.shares ∙ words.shares ∙ of_frame (λ f. f.settings.shares_fetches) s framed;
+    clock = knows.clock ∙ words.clock ∙ of_frame (λ f. f.clock) s framed;
+    ticked = knows.ticked ∙ words.ticked ∙ of_frame (λ f. f.is_ticked) s framed;
+    stopped = knows.stopped ∙ words.stopped ∙ of_frame (λ f. f.is_stopped) s framed;
+  }
+
+  stands : (number : ℕ → ℕ) (x : Both) (s : State) (bytes : Bytes) → Moment x s bytes → ShowsSides number name (sides_of x) s → StandsThere number name shelf x s
+  stands number x s bytes m shows =
+      let one : RestsOn shelf n ends x s bytes = on x s bytes m in
+      let named : x.state.name.items ≡ name = m.knows.name ∙ own in
+      record {
+        named = sym (of_frame (λ f. f.settings.name) s m.framed) ∙ sym words.name ∙ own;
+        shows = record {
+          read = record {
+            turn = turn_by number x.peers x.state s (words_at x s m.knows m.framed) one.bounded (subst (λ (text : Bytes). ShowsSteps number text none_leaves x.peers (parts x.state) s) (sym named) shows.steps);
+            disk = one.disk;
+            may = one.may;
+            forgotten = one.forgotten;
+          };
+          may = shows.may;
+        };
+      }
+
+  -- ---- one moment behind the other
+
+  next_is : (x next : Both) (s t : State) (bytes rest : Bytes) → (m : Moment x s bytes) → IsBehindHead shelf n x s bytes next t rest ⊎ IsBehindPiece name shelf n x s bytes next t rest → KnowsAsMuch x.state next.state → Stays false (frame false from) t → LeadsTo shelf n next ends → Moment next t rest
+  unfolding IsMoment
+  next_is x next s t bytes rest m behind knows framed leads = record { pieces = suc m.pieces; is = (x, s, bytes, m.is, behind); knows = knows_then begins.state x.state next.state m.knows knows; framed = framed; leads = leads }
+
+  module _ (number : ℕ → ℕ) (x next : Both) (s : State) (k : Conn) (e : Exchange) (bytes : Bytes) (behind : Option Remains) (more : ℕ) (m : Moment x s bytes) (run : GotFrom more shelf n behind next ends) (there : StandsBefore number shelf x s n k e) (it : HeadIsGot shelf next s n e bytes behind there.begin there.then there.before there.peer) where
+    abbrev t : State
+    t = head_came there.before it.head there.then
+
+    head_framed : Stays false (frame false from) t
+    head_framed = framed_by (frame false from) (length bytes) it.less n bytes it.rest s t it.law m.framed
+
+    head_knows : KnowsAsMuch x.state next.state
+    head_knows = subst (λ (p : Turn). KnowsAsMuch p next.state) there.state (head_stays shelf n _ next it.came).knows
+
+    behind_head : Moment next t it.rest
+    behind_head = next_is x next s t bytes it.rest m (inl (record { number = number; conn = k; exchange = e; behind = behind; there = there; head = next; it = it; state = refl; left = refl; then = inl refl })) head_knows head_framed (record { more = more; behind = behind; then = run })
+
+    behind_end : (last : Both) (after : Option Remains) (less : ℕ) → IsStepOn (going_on (find (is_number n) next.peers)) shelf n (remaining it.rest []) next last after → GotFrom less shelf n after last ends → Moment last t it.rest
+    behind_end last after less step later =
+        next_is x last s t bytes it.rest m (inl (record { number = number; conn = k; exchange = e; behind = behind; there = there; head = next; it = it; state = refl; left = refl; then = inr (after, step) }))
+        (knows_then x.state next.state last.state head_knows (step_stays (going_on (find (is_number n) next.peers)) shelf n (remaining it.rest []) next last after step).knows) head_framed (record { more = less; behind = after; then = later })
+
+    -- memory was refused for no row: this life did not go astray
+    next_calm : next.state.is_astray ≡ false
+    next_calm = (reads_stay more shelf n behind next ends run).astray calm
+
+    none_before : there.begin.state.refused ≡ []
+    none_before = there.shows.read.turn.steps.refused
+
+    supplied : SuppliesHead shelf n ends Moment next s e bytes behind there.begin there.then there.before there.peer it
+    supplied =
+        let one : HeadRestsOn shelf n next s e bytes behind there.begin there.then there.before there.peer it = (on x s bytes m).heads number next k e behind more run there it in
+        record {
+          may = one.may;
+          given = head_given (first_on n (parts there.begin.state)) shelf n (with_head n there.peer it.left there.begin) next it.came next_calm one.bounded;
+          refused = (head_stays shelf n (with_head n there.peer it.left there.begin) next it.came).refused next_calm none_before;
+          end = one.end;
+          holds = λ goes. behind_head;
+          ends = λ last after less right over step later. behind_end last after less step later;
+        }
+
+  behind_piece : (number : ℕ → ℕ) (x z next : Both) (s : State) (k : Conn) (a : Answer) (peer : Peer) (e : Exchange) (bytes : Bytes) (here : Remains) (after : Option Remains) (more : ℕ) → Moment x s bytes → IsWithinBody x s n k a peer e → IsAmidBody x z n peer a bytes here
+      → IsStepOn (going_on (find (is_number n) z.peers)) shelf n here z next after → GotFrom more shelf n after next ends → PieceIsOver number name next s k a bytes after → Moment next (body_piece k a bytes s).state (body_piece k a bytes s).rest
+  behind_piece number x z next s k a peer e bytes here after more m within amid step run over =
+      next_is x next s (body_piece k a bytes s).state bytes (body_piece k a bytes s).rest m
+      (inr (record { number = number; conn = k; answer = a; peer = peer; exchange = e; amid = z; here = here; after = after; within = within; is_amid = amid; step = step; over = over; state = refl; left = refl }))
+      (subst (λ (p : Turn). KnowsAsMuch p next.state) amid.state (step_stays (going_on (find (is_number n) z.peers)) shelf n here z next after step).knows) (piece_stays bytes m) (record { more = more; behind = after; then = run })
+    where
+      opens : IsOpen s n k
+      opens = record { there = within.on.may.there; goes_on = within.on.may.goes_on }
+
+      piece_stays : (bytes : Bytes) → Moment x s bytes → Stays false (frame false from) (body_piece k a bytes s).state
+      piece_stays [] m = none_framed (frame false from) k a s m.framed ((on x s [] m).bodies k a opens within.on.answer).going
+      piece_stays (b ∷ bytes) m = piece_framed (frame false from) n b bytes s k a opens within.on.answer m.framed
+
+  pub supplies : Supplies name shelf n ends Moment
+  supplies = record {
+    stands = stands;
+    enough = λ most x s bytes m few. (on x s bytes m).enough most few;
+    fewer = λ x s k a b bytes m opens has. (on x s (b ∷ bytes) m).fewer k a b bytes refl opens has;
+    awaits = λ x s bytes k e m due none. (on x s bytes m).awaits k e due none;
+    heads = λ number x next s k e bytes behind more m run there it. supplied number x next s k e bytes behind more m run there it;
+    bodies = λ x s k a bytes m opens has. (on x s bytes m).bodies k a opens has;
+    behind = behind_piece;
+  }
