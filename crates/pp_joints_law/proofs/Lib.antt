@@ -1,4 +1,9 @@
 pub mod Decided
 pub mod Done
+pub mod Kept
+pub mod Left
+pub mod MayClose
+pub mod Near
+pub mod Same
 pub mod Served
 pub mod Settled

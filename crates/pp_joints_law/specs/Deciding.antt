@@ -1,6 +1,6 @@
 -- Behind the disk a turn decides, or at Stop all is closed (RFC 2616, section 8.1; the order is ours).
 use Rattle.std.specs.Prelude.{◌≡◌, ℕ, true, false, length}
-use Rattle.pp_carries_law.specs.Keeping.{HasBeenKept}
+use Rattle.pp_joints_law.specs.Keeping.{HasBeenKept}
 use Rattle.pp_law.specs.State.{State}
 use Rattle.pp_proxy.specs.Moving.{Turning}
 use Rattle.pp_rounds_law.specs.Settles.{StandsAtStop}

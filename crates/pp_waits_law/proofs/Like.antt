@@ -12,7 +12,7 @@ use Rattle.pp_steps_law.proofs.Places.{numbers_set}
 use Rattle.pp_turns_law.specs.Marks.{all_rested}
 use Rattle.pp_wants.specs.Rests.{all_waiting, rested_at}
 
-none_some : {A : Type 0} {x : A} → None ≡ Some x → ⊥
+pub none_some : {A : Type 0} {x : A} → None ≡ Some x → ⊥
 none_some e = absurd (cc e)
 
 -- the one that was there
@@ -65,7 +65,7 @@ pub all_numbers : (p : Turn) (is : List ℕ) (seats : List Seat) → numbers_of 
 all_numbers p [] seats = refl
 all_numbers p (i ∷ is) seats = all_numbers p is (changed_at i (rested_seat p) seats) ∙ changed_numbers p i seats
 
-as_many : (seats : List Seat) → length (numbers_of seats) ≡ length seats
+pub as_many : (seats : List Seat) → length (numbers_of seats) ≡ length seats
 as_many [] = refl
 as_many (seat ∷ seats) = ap suc (as_many seats)
 

@@ -19,14 +19,13 @@ use Rattle.pp_turns_law.proofs.First.{IsShownAt, client_shown}
 use Rattle.pp_turns_law.proofs.Wanted.{writes}
 use Rattle.pp_turns_law.specs.Firsts.{AreAwake}
 use Rattle.pp_turns_law.specs.Wants.{numbers_with}
-use Rattle.pp_waits_law.proofs.Wanted.{end_d, few_written, less_room, seat_number, seat_written, written_is}
+use Rattle.pp_waits_law.proofs.Like.{none_some}
+use Rattle.pp_waits_law.proofs.Rising.{false_true}
 use Rattle.pp_waits_law.proofs.Waited.{seat_out}
+use Rattle.pp_waits_law.proofs.Wanted.{and_off, end_d, few_written, less_room, seat_number, seat_written, written_is}
 use Rattle.pp_waits_law.proofs.Written.{chosen, or_none, written}
 use Rattle.pp_waits_law.specs.Wanted.{SaysAreWanted}
 use Rattle.pp_wants.specs.Awaited.{is_asked}
-
-none_some : {A : Type 0} {x : A} → None ≡ Some x → ⊥
-none_some e = absurd (cc e)
 
 -- ---- one number, one place
 
@@ -92,9 +91,6 @@ both true true is = (refl, refl)
 both true false is = absurd (cc is)
 both false b is = absurd (cc is)
 
-false_true : {b : Bool} → b ≡ false → b ≡ true → ⊥
-false_true {b} isnt is = let same : false ≡ true = sym isnt ∙ is in cc same
-
 abbrev says_at : Turn → ℕ → ℕ → Bool
 says_at q n j = seat_written q (slice_get q.seats.items j) && (seat_number (slice_get q.seats.items j) == n)
 
@@ -120,13 +116,9 @@ one_said q i seat awake order room here = written_is seat.client.id q awake.orde
 
 -- ---- and behind the origins
 
-none_of : (f : Peer → Bool) (ps : List Peer) → ((j : ℕ) (y : Peer) → slice_get ps j ≡ Some y → f y ≡ false) → list_any f ps ≡ false
+pub none_of : (f : Peer → Bool) (ps : List Peer) → ((j : ℕ) (y : Peer) → slice_get ps j ≡ Some y → f y ≡ false) → list_any f ps ≡ false
 none_of f [] none = refl
 none_of f (y ∷ ys) none = ap₂ (λ (a b : Bool). a || b) (none 0 y refl) (none_of f ys (λ j z at. none (suc j) z at))
-
-and_off : (a : Bool) → (a && false) ≡ false
-and_off true = refl
-and_off false = refl
 
 pub says_wanted : SaysAreWanted
 says_wanted number before w clients d e s may awaits i c at =

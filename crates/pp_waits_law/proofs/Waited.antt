@@ -6,12 +6,12 @@ use Rattle.pp_cache_law.proofs.Numbers.{some_is}
 use Rattle.pp_desk.specs.Closings.{peer_numbers}
 use Rattle.pp_desk.specs.declared.desk.Desk.{Desk}
 use Rattle.pp_due.specs.Waits.{all_read, is_read, read_before, with_read, with_read_of, with_written_by}
+use Rattle.pp_law.specs.After.{changed}
 use Rattle.pp_law.specs.Lists.{has_number}
 use Rattle.pp_law.specs.Permits.{permits}
 use Rattle.pp_law.specs.Phases.{ending}
 use Rattle.pp_law.specs.State.{State}
 use Rattle.pp_law.specs.Turn.{rest_with}
-use Rattle.pp_law.specs.After.{changed}
 use Rattle.pp_obeys.proofs.Calls.{moves_to}
 use Rattle.pp_obeys.proofs.Happenings.{goes_by}
 use Rattle.pp_obeys.specs.Moves.{Goes, Leads}
@@ -21,16 +21,14 @@ use Rattle.pp_seats.specs.declared.seat.Seat.{Seat}
 use Rattle.pp_state.specs.Ends.{AreInOrder, AreSeated, Parts, numbers_of, parts}
 use Rattle.pp_state.specs.Numbers.{with_number, with_read_by}
 use Rattle.pp_state.specs.declared.state.State.{State as Turn}
-use Rattle.pp_wants.specs.Awaited.{all_got, is_read as is_got, with_got}
 use Rattle.pp_waits_law.proofs.Left.{wants_leave}
+use Rattle.pp_waits_law.proofs.Like.{none_some}
 use Rattle.pp_waits_law.proofs.Rested.{rests_as_law}
 use Rattle.pp_waits_law.specs.Rests.{HasRested, StandBehind, StandsLoud}
 use Rattle.pp_waits_law.specs.Waits.{ClientsStandFirst, HasWaited, IsApart, MayWait, WaitsLead}
+use Rattle.pp_wants.specs.Awaited.{all_got, is_read as is_got, with_got}
 use Rattle.pp_world.specs.declared.event.Wants.{Wants}
 use Rattle.pp_world.specs.declared.happening.Happening.TheVariants.{Waits}
-
-none_some : {A : Type 0} {x : A} → None ≡ Some x → ⊥
-none_some e = absurd (cc e)
 
 -- ---- origins come behind
 
@@ -50,7 +48,7 @@ nothing : (ms : List ℕ) → ms ≡ ms ++ []
 nothing [] = refl
 nothing (m ∷ ms) = ap (λ (ns : List ℕ). m ∷ ns) (nothing ms)
 
-grouped : (xs ys zs : List ℕ) → (xs ++ ys) ++ zs ≡ xs ++ (ys ++ zs)
+pub grouped : (xs ys zs : List ℕ) → (xs ++ ys) ++ zs ≡ xs ++ (ys ++ zs)
 grouped [] ys zs = refl
 grouped (x ∷ xs) ys zs = ap (λ (ns : List ℕ). x ∷ ns) (grouped xs ys zs)
 

@@ -26,12 +26,13 @@ use Rattle.pp_turns_law.proofs.First.{IsShownAt, seat_shown}
 use Rattle.pp_turns_law.proofs.Wanted.{accepting}
 use Rattle.pp_turns_law.specs.Wants.{ShowsEnd}
 use Rattle.pp_waits_law.proofs.Left.{same_parts, wants_leave}
+use Rattle.pp_waits_law.proofs.Places.{how_many}
 use Rattle.pp_waits_law.proofs.Rested.{first_none, none_at}
 use Rattle.pp_waits_law.proofs.Waited.{all_read_out, seat_out}
 use Rattle.pp_waits_law.proofs.Written.{added, chosen, written}
 use Rattle.pp_waits_law.specs.Rests.{StandsLoud}
-use Rattle.pp_waits_law.specs.Wanted.{AcceptsAreWanted, AsksAreWanted, GetsAreWanted, MayWant}
 use Rattle.pp_waits_law.specs.Waits.{IsApart}
+use Rattle.pp_waits_law.specs.Wanted.{AcceptsAreWanted, AsksAreWanted, GetsAreWanted, MayWant}
 use Rattle.pp_wants.specs.Awaited.{is_asked, is_read}
 use Rattle.pp_world.specs.declared.event.Wants.{Wants}
 
@@ -95,10 +96,6 @@ folds q (i ∷ is) ms =
     folds q is (with_written q ms i)
     ∙ ap (λ (ns : List ℕ). fold (λ (ks : List ℕ) (j : ℕ). with_written_by (at_written q j) (at_number q j) ks) ns is) (one_written q (slice_get q.seats.items i) ms)
 
-how_many : (low next : ℕ) (ns : List ℕ) → AreGiven low next ns → low + length ns ≤ next
-how_many low next [] given = omega (arith, given)
-how_many low next (n ∷ ns) given = let rest : n + 1 + length ns ≤ next = how_many (n + 1) next ns given.1 in omega (arith, given.0, rest)
-
 pub few_written : (q : Turn) (others : ℕ) → AreGiven 0 (length q.seats.items) q.awake.items → length q.seats.items + others ≤ 320 → length (all_written q []) + others ≤ 320
 few_written q others given room =
     let more : length (fold (λ (ks : List ℕ) (j : ℕ). with_written_by (at_written q j) (at_number q j) ks) [] q.awake.items) ≤ 0 + length q.awake.items = added (at_written q) (at_number q) q.awake.items [] in
@@ -116,7 +113,7 @@ none_any : {A : Type 0} (f : A → Bool) (xs : List A) → ((x : A) → f x ≡ 
 none_any f [] none = refl
 none_any f (x ∷ xs) none = ap₂ (λ (a b : Bool). a || b) (none x) (none_any f xs none)
 
-and_off : (a : Bool) → (a && false) ≡ false
+pub and_off : (a : Bool) → (a && false) ≡ false
 and_off true = refl
 and_off false = refl
 

@@ -18,7 +18,7 @@ or_group false b c = refl
 is_less : (a b : ℕ) → a < b → nat_lt a b ≡ true
 is_less a b less = grind (arith, nat_tests, less)
 
-at_end : (n m : ℕ) (ms : List ℕ) → has_number n (ms ++ m ∷ []) ≡ (has_number n ms || (m == n))
+pub at_end : (n m : ℕ) (ms : List ℕ) → has_number n (ms ++ m ∷ []) ≡ (has_number n ms || (m == n))
 at_end n m [] = or_none (m == n)
 at_end n m (k ∷ ms) = ap (λ (b : Bool). (k == n) || b) (at_end n m ms) ∙ sym (or_group (k == n) (has_number n ms) (m == n))
 

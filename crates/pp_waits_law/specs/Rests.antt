@@ -1,7 +1,7 @@
 -- Behind a wait the turn has what the law has: who shares an ask waits for its exchange, it is noted which connections were waited for, and
 -- how far each body is wanted; no client and no instance is new (ours).
 --
--- Where the premises come from: all of `StandsToWait` is of the end of a turn (Ends.`HasEnded` of pp_settle_law). In the wants clients stand
+-- Where the premises come from: all of `StandsToWait` is of the end of a turn (Ends.`HasEnded` of pp_rounds_law). In the wants clients stand
 -- first, and origins behind them (`all_got` of pp_wants, which adds to what is read of clients): no number of the front is an origin's, as no
 -- two connections have one number.
 use Rattle.std.specs.Prelude.{◌≡◌, ℕ, false, take, List, slice_get, Some}

@@ -1,5 +1,0 @@
-use Rattle.pp_carries_law.proofs.Kept.{keepings_carry, stands_to_keep}
-use Rattle.pp_carries_law.proofs.keeping.keepings_come_behind_what_leaves.Goals as goal
-
-pub returns : goal.returns
-returns c = record { stands = stands_to_keep; carries = keepings_carry }

@@ -1,6 +1,0 @@
-use Rattle.pp_carries_law.proofs.Left.{leavings_carry}
-use Rattle.pp_carries_law.proofs.Near.{memory_may}
-use Rattle.pp_carries_law.proofs.leaving.memory_may_be_left_behind_events.Goals as goal
-
-pub returns : goal.returns
-returns c = record { may = memory_may; carries = leavings_carry }

@@ -1,4 +1,0 @@
-pub mod Carried
-pub mod Closing
-pub mod Keeping
-pub mod Leaving

@@ -1,8 +1,0 @@
-// Behind an event.
-ghost use Rattle.pp_carries_law.specs.Leaving.{LeavingsCarry, MemoryMayBeLeft};
-
-/// Where it is handled, what leaves memory may leave, and what is carried stands behind.
-pub fn memory_may_be_left_behind_events()
-    ensures may { MemoryMayBeLeft }
-    ensures carries { LeavingsCarry }
-{}

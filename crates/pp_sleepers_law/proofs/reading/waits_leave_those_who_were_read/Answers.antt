@@ -1,5 +1,0 @@
-use Rattle.pp_sleepers_law.proofs.Left.{left_read}
-use Rattle.pp_sleepers_law.proofs.reading.waits_leave_those_who_were_read.Goals as goal
-
-pub returns : goal.returns
-returns c = record { left = left_read }

@@ -1,4 +1,0 @@
-pub mod Asleep
-pub mod Good
-pub mod Reads
-pub mod Steps
