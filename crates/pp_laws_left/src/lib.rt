@@ -10,6 +10,6 @@
 mod left; // what a turn leaves of replies, of what is said and passed, and of places where no head is
 
 pub use left::{
-    ends_are_left, ends_are_to_pass, left_is_left, senders_are_there, turns_are_left,
-    turns_are_spoken,
+    ends_are_left, ends_are_to_pass, happenings_end_no_turn, left_is_left, senders_are_there,
+    turns_are_left, turns_are_spoken,
 };
