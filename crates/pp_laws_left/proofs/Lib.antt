@@ -20,3 +20,4 @@ pub mod SpokenLaws
 pub mod Passes
 pub mod Senders
 pub mod AllLeft
+pub mod Unended

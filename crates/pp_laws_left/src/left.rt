@@ -1,5 +1,6 @@
 // What a turn leaves of replies, of what is said and passed, and of places where no head is.
 ghost use Rattle.pp_laws_left.specs.Left.{EndsAreLeft, EndsAreSpoken, EndsAreToPass, LeftIsLeft, SendersAreThere, TurnsAreLeft, TurnsAreSpoken};
+ghost use Rattle.pp_laws_left.specs.Unended.{HappeningsEndNoTurn, TurnsMayEnd};
 
 /// No reply goes on behind its end, one that is passed has no bytes of a row, and any other has its row; and a place where no head is
 /// has a page, once something was decided for it.
@@ -32,4 +33,11 @@ pub fn senders_are_there()
 /// So of what a turn leaves nothing is to be shown any more but what is said of exchanges.
 pub fn left_is_left()
     ensures left { LeftIsLeft }
+{}
+
+/// No happening leaves a turn at its end, but for a row that leaves memory for the decision that is next; so where a turn may end, its
+/// last happening left it before its end.
+pub fn happenings_end_no_turn()
+    ensures early { HappeningsEndNoTurn }
+    ensures may { TurnsMayEnd }
 {}

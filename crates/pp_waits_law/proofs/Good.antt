@@ -15,8 +15,10 @@ use Rattle.pp_laws_served.proofs.Joined.{turns_end}
 use Rattle.pp_waits_law.proofs.Others.{no_more_written}
 use Rattle.pp_waits_law.proofs.Read.{clients_read, no_more_read, origins_read}
 use Rattle.pp_waits_law.proofs.Says.{says_wanted}
+use Rattle.pp_waits_law.proofs.Waited.{waits_lead}
 use Rattle.pp_waits_law.proofs.Wanted.{accepts_wanted, asks_wanted}
-use Rattle.pp_waits_law.specs.Good.{WaitsArePermitted, WantsAreAsGood}
+use Rattle.pp_waits_law.specs.Good.{WaitsArePermitted, WantedWaitsLead, WantsAreAsGood}
+use Rattle.pp_waits_law.specs.Waits.{MayWait}
 
 record StandsAt {A : Type 0} (x : A) (xs : List A) : Type 0 where
   place : ℕ
@@ -57,3 +59,15 @@ as_good number before w clients d e s may awaits = record {
 
 pub permitted : WaitsArePermitted
 permitted terms s log number before w clients d e ends left may awaits = turns_end terms s log ends left w (as_good number before w clients d e (ending s) may awaits)
+
+pub wanted_waits : WantedWaitsLead
+wanted_waits terms s log number before w clients d e f ends left none may awaits rests = waits_lead number before w clients d e f s can awaits rests
+  where
+    can : MayWait number before w d s
+    can = record {
+      stands = may.can.may.stands;
+      permitted = permitted terms s log number before w clients d e ends left may awaits;
+      none = none;
+      order = may.can.may.order;
+      apart = may.can.may.apart;
+    }

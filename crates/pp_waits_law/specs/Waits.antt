@@ -1,8 +1,9 @@
 -- Where a turn may end, the wait leads on to where an event is awaited (ours).
 --
--- Where the premises come from: that the wait is permitted is Good.`WaitsArePermitted`, where a turn may end (Served of pp_laws_served). What
--- stands at the end, before the wait, is Ends.`HasEnded` of pp_rounds_law, where no row left memory for a decision (its `none`). What was read at
--- the last wait is of clients alone (`TurnsOn` of pp_proxy: its `read`), and no two connections have one number.
+-- Where the premises come from: that the wait is permitted is Good.`WaitsArePermitted`, where a turn may end (Served of pp_laws_served), and
+-- Good.`WantedWaitsLead` has both in one. What stands at the end, before the wait, is Ends.`HasEnded` of pp_rounds_law, where no row left memory
+-- for a decision (its `none`). What was read at the last wait is of clients alone (`TurnsOn` of pp_proxy: its `read`), and no two connections
+-- have one number.
 use Rattle.std.specs.Prelude.{◌≡◌, ℕ, true, false, List, [], ◌∷◌, slice_get, Some, None}
 use Rattle.pp_desk.specs.declared.desk.Desk.{Desk}
 use Rattle.pp_law.specs.Lists.{has_number}

@@ -8,10 +8,11 @@
 //! Which clients are read is settled from wait to wait. `specs/Asleep.antt`: whoever is not looked at in a turn was read at the last wait, which
 //! holds as long as nobody falls asleep amid a turn. `specs/Steps.antt`: nobody does, in the event, in what leaves memory, in what is kept on the
 //! disk, and in what follows. `specs/Reads.antt`: so at the next wait each client is read that may send more, where there is room for that, and
-//! nobody else; and the wait leaves it so. `specs/Good.antt`: all these wants are as good as the law's, so the law permits the wait.
+//! nobody else; and the wait leaves it so. `specs/Good.antt`: all these wants are as good as the law's, so the law permits the wait, and it
+//! leads on.
 //!
 //! Not said: that there is a place left to look at one client more, and what a client that comes leaves of that room; that a turn may end there,
-//! which is a premise here (`pp_laws_served` has it); and the event itself.
+//! which is a premise here (`pp_laws_left` has what `MayEnd` says of the log); and the event itself.
 //!
 //! To the layer above: each is the clause of a function that does nothing. It is one part of the proof that the program obeys the law.
 //!
