@@ -84,7 +84,7 @@ module _ (terms : List Term) (before : Log) (shelf : KeptMap) (test : Turn → S
   served : HasServed terms before shelf y log s
   served = record { then = gone.then; comes = gone.comes; number = gone.stands.number; ended = ended; set = set }
 
--- ---- it went astray before replies began, or it did not
+-- ---- whether this life went astray is as it was before replies begin
 
 begun_as_before : (shelf : KeptMap) (x y : Moving) (log : Log) (serves : Serves shelf x log y) → y.desk.state.is_astray ≡ serves.between.desk.state.is_astray
 begun_as_before shelf x y log serves =
