@@ -15,10 +15,12 @@ use Rattle.pp_objects.specs.declared.id.ObjectId.{ObjectId}
 use Rattle.pp_proxy.specs.Closing.{ClosesOver}
 use Rattle.pp_proxy.specs.Deciding.{Decides, TakesOne}
 use Rattle.pp_proxy.specs.Moving.{Moving, with_desk, with_state}
+use Rattle.pp_proxy.specs.Rounds.{GoRounds}
 use Rattle.pp_proxy.specs.Taking.{TakesDueOf, who_at}
 use Rattle.pp_seats.specs.Decided.{with_interim}
 use Rattle.pp_seats.specs.declared.due.Due.{Due}
 use Rattle.pp_seats.specs.declared.due.Due.TheVariants.{Decide, CutOff}
+use Rattle.pp_state.specs.Astray.{gone_astray_where}
 use Rattle.pp_state.specs.Ends.{Parts, changed_at, exchange_of, forsaken, left, left_at_decision, left_source, on_seat, parts, source_at, unfollowed, without_source}
 use Rattle.pp_state.specs.Pins.{is_for_memory}
 use Rattle.pp_state.specs.declared.state.State.{State as Turn}
@@ -31,7 +33,7 @@ use Rattle.pp_world.specs.declared.note.Decision.{Decision}
 use Rattle.pp_world.specs.declared.note.Decision.TheVariants.{Refuse, Hit, Part, Head, NotModified, Unsatisfiable, Relay, Validate, Fetch, Pass}
 use Rattle.pp_rounds_law.proofs.Carried.{carries_decision}
 use Rattle.pp_rounds_law.proofs.Places.{carries_places}
-use Rattle.pp_rounds_law.proofs.Quiet.{carries_filled, carries_given_up, carries_unseen}
+use Rattle.pp_rounds_law.proofs.Quiet.{carries_filled, carries_unseen}
 use Rattle.pp_rounds_law.specs.Astray.{AllDecisionsStayAstray, DecisionsStayAstray, IsAstray, PlacesStayAstray, RoundsStayAstray}
 
 -- so one that did not go astray behind them did not before
@@ -265,11 +267,11 @@ all_stay shelf x y log any all is = decisions_stay 65536 shelf all.between y all
 pub places_stay : PlacesStayAstray
 places_stay more m after x y log placed is = (carries_places more m after x y log placed).astray is
 
-closings_stay : (x y : Moving) (log : Log) → ClosesOver x log y → IsAstray x → IsAstray y
+pub closings_stay : (x y : Moving) (log : Log) → ClosesOver x log y → IsAstray x → IsAstray y
 closings_stay x y log over is = ap (λ (d : Desk). d.state.is_astray) over.rest ∙ is
 
 pub rounds_stay : RoundsStayAstray
-rounds_stay shelf x y log any round order is =
+rounds_stay shelf x y log any round is =
     all_stay shelf round.placed y round.deciding any round.decides
     (places_stay 65536 _ None _ _ round.placing round.places.is (closings_stay (with_desk round.asked x) round.closed round.closing round.closes asked))
   where
@@ -277,7 +279,19 @@ rounds_stay shelf x y log any round order is =
     seen = ap (λ (z : Sides). z.parts.is_astray) round.drops.is ∙ (carries_unseen (sides x.desk)).astray is
 
     given : round.given.state.is_astray ≡ true
-    given = ap (λ (z : Sides). z.parts.is_astray) (round.gives.is order) ∙ (carries_given_up _ (parts round.seen.state)).astray seen
+    given = round.gives.astray ∙ seen
 
     asked : round.asked.state.is_astray ≡ true
     asked = ap (λ (z : Sides). z.parts.is_astray) round.fills.is ∙ (carries_filled round.given.state.is_stopped round.given.state.name.items round.given.state.awake.items (parts round.given.state)).astray given
+
+-- ---- rounds, one behind the other
+
+gone_stays : (any : Bool) (x : Moving) → IsAstray x → IsAstray (with_state (gone_astray_where any x.desk.state) x)
+gone_stays true x is = refl
+gone_stays false x is = is
+
+pub loops_stay : (more : ℕ) (shelf : KeptMap) (any : Bool) (x y : Moving) (log : Log) → GoRounds more shelf any x log y → IsAstray x → IsAstray y
+unfolding GoRounds
+loops_stay zero shelf any x y log it is = ap (λ (z : Moving). z.desk.state.is_astray) it.1 ∙ gone_stays any x is
+loops_stay (suc more) shelf false x y log it is = ap (λ (z : Moving). z.desk.state.is_astray) it.1 ∙ is
+loops_stay (suc more) shelf true x y log (next, first, rest, again, log_is, round, others) is = loops_stay more shelf again next y rest others (rounds_stay shelf x next first again round is)

@@ -1,8 +1,9 @@
 -- Rounds lead on, one behind the other.
-use Rattle.std.proofs.Common.{◌≡◌, ◌⊎◌, inl, inr, refl, sym, subst, ap, ◌∙◌, ℕ, zero, suc, Bool, true, false, List, [], ◌++◌, append-nil}
+use Rattle.std.proofs.Common.{◌≡◌, refl, sym, subst, ap, ◌∙◌, ℕ, zero, suc, Bool, true, false, List, [], ◌++◌, append-nil}
 use Rattle.pp_law.specs.State.{State, Term}
 use Rattle.pp_proxy.specs.Moving.{Moving}
 use Rattle.pp_proxy.specs.Rounds.{GoRounds, GoesRound}
+use Rattle.pp_rounds_law.proofs.Astray.{loops_stay, well_before}
 use Rattle.pp_rounds_law.proofs.Coming.{affords_front, affords_then, comes_then}
 use Rattle.pp_rounds_law.proofs.Round.{rounds_end}
 use Rattle.pp_rounds_law.specs.Coming.{Affords, ComesTo}
@@ -12,7 +13,7 @@ use Rattle.pp_rounds_law.specs.Decisions.{Passes}
 use Rattle.pp_state.specs.declared.state.State.{State as Turn}
 use Rattle.pp_store.specs.Kept.{KeptMap}
 use Rattle.pp_world.specs.Log.{Log}
-use Rattle.pp_rounds_law.specs.Loops.{LoopsLead, MayGoRound, RoundsGoAstray}
+use Rattle.pp_rounds_law.specs.Loops.{LoopsLead, MayGoRound}
 
 module _ (terms : List Term) (shelf : KeptMap) (test : Turn → State → Bool) (supplies : RoundSupplies shelf (Passes test)) where
   abbrev Gone : Log → Moving → Log → Bool → State → Type 0
@@ -46,28 +47,26 @@ module _ (terms : List Term) (shelf : KeptMap) (test : Turn → State → Bool) 
   }
 
   abbrev Onward : ℕ → Type 0
-  Onward more = (before : Log) (x y : Moving) (log : Log) (s : State) → MayGoRound terms before shelf (Passes test) x log s → GoRounds more shelf true x log y → Ends before y log false s ⊎ RoundsGoAstray more shelf x log y
+  Onward more = (before : Log) (x y : Moving) (log : Log) (s : State) → MayGoRound terms before shelf (Passes test) x log s → GoRounds more shelf true x log y → y.desk.state.is_astray ≡ false → Ends before y log false s
 
   step : (more : ℕ) → Onward more → (before : Log) (x y : Moving) (log : Log) (s : State) → MayGoRound terms before shelf (Passes test) x log s → (next : Moving) (first rest : Log) (again : Bool) → log ≡ first ++ rest → GoesRound shelf x first next again → GoRounds more shelf again next rest y
-      → Ends before y log false s ⊎ RoundsGoAstray (suc more) shelf x log y
-  unfolding RoundsGoAstray
-  step more onward before x y log s begins next first rest again is round others = by_astray next.desk.state.is_astray refl
+      → y.desk.state.is_astray ≡ false → Ends before y log false s
+  step more onward before x y log s begins next first rest again is round others well =
+      by again refl (rounds_end terms before shelf test x next first again s supplies begins.obeys (affords_front s first rest affords) begins.stands begins.holds begins.at begins.none round next_well)
     where
       affords : Affords s (first ++ rest)
       affords = subst (λ (hs : Log). Affords s hs) is begins.affords
 
-      on : (gone : Gone before next first true s) → again ≡ true → Ends (before ++ first) y rest false gone.then ⊎ RoundsGoAstray more shelf next rest y → Ends before y log false s ⊎ RoundsGoAstray (suc more) shelf x log y
-      on gone any (inl last_one) = inl (before_others before first rest log next y s is gone last_one)
-      on gone any (inr out) = inr (next, first, rest, again, is, round, inr (any, out))
+      next_well : next.desk.state.is_astray ≡ false
+      next_well = well_before next.desk.state.is_astray y.desk.state.is_astray (loops_stay more shelf again next y rest others) well
 
-      by : (b : Bool) → again ≡ b → Ends before next first again s → Ends before y log false s ⊎ RoundsGoAstray (suc more) shelf x log y
+      by : (b : Bool) → again ≡ b → Ends before next first again s → Ends before y log false s
       by false any one =
-          inl
-          (last before first rest log next y s is (ended more next rest y (subst (λ (c : Bool). GoRounds more shelf c next rest y) any others))
-          (subst (λ (c : Bool). Ends before next first c s) any one))
+          last before first rest log next y s is (ended more next rest y (subst (λ (c : Bool). GoRounds more shelf c next rest y) any others))
+          (subst (λ (c : Bool). Ends before next first c s) any one)
       by true any one =
           let so : Gone before next first true s = (subst (λ (c : Bool). Ends before next first c s) any one).gone in
-          on so any
+          before_others before first rest log next y s is so
           (onward (before ++ first) next y rest so.then (record {
             obeys = so.comes.obeys;
             affords = affords_then terms before first rest s so.then so.comes affords;
@@ -75,16 +74,12 @@ module _ (terms : List Term) (shelf : KeptMap) (test : Turn → State → Bool) 
             holds = so.holds;
             at = so.phase;
             none = so.none;
-          }) (subst (λ (c : Bool). GoRounds more shelf c next rest y) any others))
-
-      by_astray : (b : Bool) → next.desk.state.is_astray ≡ b → Ends before y log false s ⊎ RoundsGoAstray (suc more) shelf x log y
-      by_astray true astray = inr (next, first, rest, again, is, round, inl astray)
-      by_astray false well = by again refl (rounds_end terms before shelf test x next first again s supplies begins.obeys (affords_front s first rest affords) begins.stands begins.holds begins.at begins.none round well)
+          }) (subst (λ (c : Bool). GoRounds more shelf c next rest y) any others) well)
 
   loop : (more : ℕ) → Onward more
-  unfolding GoRounds RoundsGoAstray
-  loop zero before x y log s begins is = inr (ap (λ (z : Moving). z.desk.state.is_astray) is.1)
-  loop (suc more) before x y log s begins (next, first, rest, again, is, round, others) = step more (loop more) before x y log s begins next first rest again is round others
+  unfolding GoRounds
+  loop zero before x y log s begins is well = absurd (let both : true ≡ false = sym (ap (λ (z : Moving). z.desk.state.is_astray) is.1) ∙ well in cc both)
+  loop (suc more) before x y log s begins (next, first, rest, again, is, round, others) well = step more (loop more) before x y log s begins next first rest again is round others well
 
 pub loops : LoopsLead
-loops terms before shelf test more x y log s supplies begins so = loop terms shelf test supplies more before x y log s begins so
+loops terms before shelf test more x y log s supplies begins so well = loop terms shelf test supplies more before x y log s begins so well

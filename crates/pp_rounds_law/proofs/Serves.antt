@@ -1,5 +1,5 @@
 -- A turn goes round, and ends.
-use Rattle.std.proofs.Common.{◌≡◌, ◌≤◌, ◌⊎◌, inl, inr, refl, sym, subst, ap, ◌∙◌, ℕ, ◌+◌, Bool, false, List, ◌++◌, length}
+use Rattle.std.proofs.Common.{◌≡◌, ◌≤◌, refl, sym, subst, ap, ◌∙◌, ℕ, ◌+◌, Bool, true, false, List, ◌++◌, length}
 use Rattle.std.specs.List.{All}
 use Rattle.std.specs.Prelude.{vec_capacity}
 use Rattle.pp_cache.specs.Bounds.{IsBounded}
@@ -28,9 +28,11 @@ use Rattle.pp_state.specs.Ends.{numbers_of}
 use Rattle.pp_state.specs.declared.state.State.{State as Turn}
 use Rattle.pp_store.specs.Kept.{KeptMap}
 use Rattle.pp_world.specs.Log.{Log}
+use Rattle.pp_rounds_law.proofs.Astray.{loops_stay}
 use Rattle.pp_rounds_law.proofs.Loops.{loops}
-use Rattle.pp_rounds_law.specs.Loops.{MayGoRound, RoundsGoAstray}
-use Rattle.pp_rounds_law.specs.Serves.{EndSupplies, HasServed, ServesAstray, ServesLead, StaysSet}
+use Rattle.pp_rounds_law.specs.Astray.{IsAstray}
+use Rattle.pp_rounds_law.specs.Loops.{MayGoRound}
+use Rattle.pp_rounds_law.specs.Serves.{EndSupplies, HasServed, ServesLead, StaysSet}
 
 module _ (terms : List Term) (before : Log) (shelf : KeptMap) (test : Turn → State → Bool) (x y : Moving) (log : Log) (s : State) (supplies : EndSupplies shelf (Passes test)) (may : MayGoRound terms before shelf (Passes test) x log s) (serves : Serves shelf x log y) (bounded : IsBounded y.desk.state.cache)
     (round : EndsRound terms before shelf (Passes test) serves.between log false s) where
@@ -82,9 +84,16 @@ module _ (terms : List Term) (before : Log) (shelf : KeptMap) (test : Turn → S
   served : HasServed terms before shelf y log s
   served = record { then = gone.then; comes = gone.comes; number = gone.stands.number; ended = ended; set = set }
 
+-- ---- whether this life went astray is as it was before replies begin
+
+begun_as_before : (shelf : KeptMap) (x y : Moving) (log : Log) (serves : Serves shelf x log y) → y.desk.state.is_astray ≡ serves.between.desk.state.is_astray
+begun_as_before shelf x y log serves =
+    ap (λ (t : Turn). t.is_astray) (all_begun serves.between.desk.state.awake.items serves.between.desk.state y.desk.state serves.begins.is).rest
+
+pub serves_stay : (shelf : KeptMap) (x y : Moving) (log : Log) → Serves shelf x log y → IsAstray x → IsAstray y
+serves_stay shelf x y log serves is = begun_as_before shelf x y log serves ∙ loops_stay 65536 shelf true x serves.between log serves.rounds is
+
 pub serves : ServesLead
-serves terms before shelf test x y log s supplies ends_too may served_so bounded = by (loops terms before shelf test 65536 x served_so.between log s supplies may served_so.rounds)
-  where
-    by : EndsRound terms before shelf (Passes test) served_so.between log false s ⊎ RoundsGoAstray 65536 shelf x log served_so.between → HasServed terms before shelf y log s ⊎ ServesAstray shelf x log
-    by (inl gone) = inl (served terms before shelf test x y log s ends_too may served_so bounded gone)
-    by (inr out) = inr (record { between = served_so.between; out = out })
+serves terms before shelf test x y log s supplies ends_too may served_so bounded well =
+    served terms before shelf test x y log s ends_too may served_so bounded
+    (loops terms before shelf test 65536 x served_so.between log s supplies may served_so.rounds (sym (begun_as_before shelf x y log served_so) ∙ well))

@@ -1,12 +1,14 @@
 -- Before Stop a turn decides, goes round and ends.
-use Rattle.std.proofs.Common.{◌≡◌, ◌⊎◌, inl, inr, refl, sym, subst, ◌∙◌, Bool, true, false, List, ◌++◌}
+use Rattle.std.proofs.Common.{◌≡◌, refl, sym, subst, ◌∙◌, Bool, true, false, List, ◌++◌}
 use Rattle.pp_cache.specs.Bounds.{IsBounded}
 use Rattle.pp_law.specs.State.{State, Phase, Term, Deciding}
 use Rattle.pp_proxy.specs.Moving.{Moving}
 use Rattle.pp_proxy.specs.Rounds.{Serves}
 use Rattle.pp_proxy.specs.Settling.{GoesOn, Settles}
+use Rattle.pp_rounds_law.proofs.Astray.{closings_stay, well_before}
 use Rattle.pp_rounds_law.proofs.Coming.{affords_then, comes_then}
 use Rattle.pp_rounds_law.proofs.Decided.{decisions}
+use Rattle.pp_rounds_law.specs.Astray.{IsAstray}
 use Rattle.pp_rounds_law.specs.Coming.{Affords, ComesTo}
 use Rattle.pp_rounds_law.specs.InRounds.{AreDecided, phase_behind}
 use Rattle.pp_rounds_law.specs.Supplies.{RoundSupplies}
@@ -14,69 +16,60 @@ use Rattle.pp_rounds_law.specs.Decisions.{Passes}
 use Rattle.pp_state.specs.declared.state.State.{State as Turn}
 use Rattle.pp_store.specs.Kept.{KeptMap}
 use Rattle.pp_world.specs.Log.{Log}
-use Rattle.pp_rounds_law.proofs.Serves.{serves}
+use Rattle.pp_rounds_law.proofs.Serves.{serves, serves_stay}
 use Rattle.pp_rounds_law.proofs.Unturned.{DecidesAlone, alone}
-use Rattle.pp_rounds_law.specs.Serves.{EndSupplies, HasServed, ServesAstray}
-use Rattle.pp_rounds_law.specs.Settles.{MaySettle, SettlesAstray, SettlesLead}
+use Rattle.pp_rounds_law.specs.Serves.{EndSupplies, HasServed}
+use Rattle.pp_rounds_law.specs.Settles.{MaySettle, SettlesLead}
 
 deciding_still : (any : Bool) (p : Phase) → p ≡ Deciding → phase_behind any p ≡ Deciding
 deciding_still true p is = refl
 deciding_still false p is = is
 
+goes_on_stays : (stopped : Bool) (shelf : KeptMap) (x y : Moving) (log : Log) → GoesOn stopped shelf x log y → IsAstray x → IsAstray y
+goes_on_stays true shelf x y log closes is = closings_stay x y log closes is
+goes_on_stays false shelf x y log served is = serves_stay shelf x y log served is
+
 module _ (terms : List Term) (before : Log) (shelf : KeptMap) (test : Turn → State → Bool) (x y : Moving) (log : Log) (s : State) (supplies : RoundSupplies shelf (Passes test)) (ends : EndSupplies shelf (Passes test)) (may : MaySettle terms before shelf (Passes test) x log s)
-    (settles : Settles shelf x log y) (bounded : IsBounded y.desk.state.cache) where
+    (settles : Settles shelf x log y) (bounded : IsBounded y.desk.state.cache) (well : y.desk.state.is_astray ≡ false) where
   decides : DecidesAlone shelf x settles.first settles.between
   decides = alone shelf x settles.between settles.first settles.any may.stands.amid.away settles.decides
 
   affords : Affords s (settles.first ++ settles.rest)
   affords = subst (λ (hs : Log). Affords s hs) settles.log_is may.affords
 
-  astray : (settles.between.desk.state.is_astray ≡ true) ⊎ ServesAstray shelf settles.between settles.rest → SettlesAstray shelf x log
-  astray out = record { between = settles.between; first = settles.first; rest = settles.rest; any = settles.any; log_is = settles.log_is; decides = settles.decides; out = out }
+  well_between : settles.between.desk.state.is_astray ≡ false
+  well_between = well_before settles.between.desk.state.is_astray y.desk.state.is_astray (goes_on_stays settles.between.desk.state.is_stopped shelf settles.between y settles.rest settles.goes) well
 
-  module _ (well : settles.between.desk.state.is_astray ≡ false) where
-    decided : AreDecided terms before shelf (Passes test) settles.between settles.first decides.any s
-    decided = decisions terms before shelf test 65536 x settles.between settles.first decides.any s supplies may.obeys may.stands may.holds decides.decides well
+  decided : AreDecided terms before shelf (Passes test) settles.between settles.first decides.any s
+  decided = decisions terms before shelf test 65536 x settles.between settles.first decides.any s supplies may.obeys may.stands may.holds decides.decides well_between
 
-    going : settles.between.desk.state.is_stopped ≡ false
-    going = decided.stands.amid.turn.stopped ∙ decided.stands.amid.going
+  going : settles.between.desk.state.is_stopped ≡ false
+  going = decided.stands.amid.turn.stopped ∙ decided.stands.amid.going
 
-    goes : Serves shelf settles.between settles.rest y
-    goes = subst (λ (b : Bool). GoesOn b shelf settles.between settles.rest y) going settles.goes
+  goes : Serves shelf settles.between settles.rest y
+  goes = subst (λ (b : Bool). GoesOn b shelf settles.between settles.rest y) going settles.goes
 
-    joined : HasServed terms (before ++ settles.first) shelf y settles.rest decided.then → HasServed terms before shelf y log s
-    joined served = record {
-      then = served.then;
-      comes = subst (λ (hs : Log). ComesTo terms before hs s served.then) (sym settles.log_is) (comes_then terms before settles.first settles.rest s decided.then served.then decided.comes served.comes);
-      number = served.number;
-      ended = served.ended;
-      set = served.set;
-    }
+  behind : HasServed terms (before ++ settles.first) shelf y settles.rest decided.then
+  behind =
+      serves terms (before ++ settles.first) shelf test settles.between y settles.rest decided.then supplies ends
+      (record {
+        obeys = decided.comes.obeys;
+        affords = affords_then terms before settles.first settles.rest s decided.then decided.comes affords;
+        stands = decided.stands;
+        holds = decided.holds;
+        at = decided.phase ∙ deciding_still decides.any s.phase may.at;
+        none = decided.none;
+      })
+      goes bounded well
 
-    behind : HasServed terms (before ++ settles.first) shelf y settles.rest decided.then ⊎ ServesAstray shelf settles.between settles.rest → HasServed terms before shelf y log s ⊎ SettlesAstray shelf x log
-    behind (inl served) = inl (joined served)
-    behind (inr out) = inr (astray (inr out))
-
-    settled_well : HasServed terms before shelf y log s ⊎ SettlesAstray shelf x log
-    settled_well =
-        behind
-        (serves terms (before ++ settles.first) shelf test settles.between y settles.rest decided.then supplies ends
-        (record {
-          obeys = decided.comes.obeys;
-          affords = affords_then terms before settles.first settles.rest s decided.then decided.comes affords;
-          stands = decided.stands;
-          holds = decided.holds;
-          at = decided.phase ∙ deciding_still decides.any s.phase may.at;
-          none = decided.none;
-        })
-        goes bounded)
-
-  settled_so : HasServed terms before shelf y log s ⊎ SettlesAstray shelf x log
-  settled_so = by settles.between.desk.state.is_astray refl
-    where
-      by : (b : Bool) → settles.between.desk.state.is_astray ≡ b → HasServed terms before shelf y log s ⊎ SettlesAstray shelf x log
-      by true is = inr (astray (inl is))
-      by false well = settled_well well
+  settled_so : HasServed terms before shelf y log s
+  settled_so = record {
+    then = behind.then;
+    comes = subst (λ (hs : Log). ComesTo terms before hs s behind.then) (sym settles.log_is) (comes_then terms before settles.first settles.rest s decided.then behind.then decided.comes behind.comes);
+    number = behind.number;
+    ended = behind.ended;
+    set = behind.set;
+  }
 
 pub settled : SettlesLead
-settled terms before shelf test x y log s supplies ends may settles bounded = settled_so terms before shelf test x y log s supplies ends may settles bounded
+settled terms before shelf test x y log s supplies ends may settles bounded well = settled_so terms before shelf test x y log s supplies ends may settles bounded well

@@ -1,13 +1,11 @@
 -- A life that went astray stays so, behind each place, decision and round of a turn (ours): one that did not go astray behind them did not
 -- before.
 use Rattle.std.specs.Prelude.{◌≡◌, ℕ, Bool, true, Option}
-use Rattle.pp_flow.specs.Changes.{numbers as flow_numbers}
 use Rattle.pp_places.specs.Around.{Around, Moment}
 use Rattle.pp_places.specs.Placing.{ArePlaced}
 use Rattle.pp_proxy.specs.Deciding.{Decides, DecidesAll}
 use Rattle.pp_proxy.specs.Moving.{Moving}
 use Rattle.pp_proxy.specs.Rounds.{GoesRound}
-use Rattle.pp_state.specs.Ends.{AreInOrder}
 use Rattle.pp_store.specs.Kept.{KeptMap}
 use Rattle.pp_world.specs.Log.{Log}
 
@@ -24,7 +22,5 @@ DecisionsStayAstray = (more : ℕ) (shelf : KeptMap) (x y : Moving) (log : Log) 
 abbrev pub AllDecisionsStayAstray : Type 0
 AllDecisionsStayAstray = (shelf : KeptMap) (x y : Moving) (log : Log) (any : Bool) → DecidesAll shelf x log y any → IsAstray x → IsAstray y
 
--- where asks without a place stand in the order of their beginnings: `GivesUp` of `pp_proxy` says only then what is left. A turn that
--- shows the law's state has them so
 abbrev pub RoundsStayAstray : Type 0
-RoundsStayAstray = (shelf : KeptMap) (x y : Moving) (log : Log) (any : Bool) → (round : GoesRound shelf x log y any) → AreInOrder (flow_numbers round.seen.state.flow.waiting) → IsAstray x → IsAstray y
+RoundsStayAstray = (shelf : KeptMap) (x y : Moving) (log : Log) (any : Bool) → GoesRound shelf x log y any → IsAstray x → IsAstray y

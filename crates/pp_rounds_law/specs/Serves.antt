@@ -1,6 +1,6 @@
 -- Behind its decisions a turn goes round, and then replies begin: the law lets it wait there (RFC 2616, sections 6, 8.1 and 8.1.4; the order is
 -- ours).
-use Rattle.std.specs.Prelude.{◌≡◌, ◌≤◌, ◌+◌, ◌⊎◌, ℕ, Bool, false, List, length, vec_capacity, None}
+use Rattle.std.specs.Prelude.{◌≡◌, ◌≤◌, ◌+◌, ℕ, Bool, false, List, length, vec_capacity, None}
 use Rattle.std.specs.List.{All}
 use Rattle.pp_cache.specs.Bounds.{IsBounded}
 use Rattle.pp_closings_law.specs.Log.{AreLinked}
@@ -22,7 +22,7 @@ use Rattle.pp_state.specs.Ends.{numbers_of}
 use Rattle.pp_state.specs.declared.state.State.{State as Turn}
 use Rattle.pp_store.specs.Kept.{KeptMap}
 use Rattle.pp_world.specs.Log.{Log}
-use Rattle.pp_rounds_law.specs.Loops.{MayGoRound, RoundsGoAstray}
+use Rattle.pp_rounds_law.specs.Loops.{MayGoRound}
 
 -- what the end rests on beside that of rounds, as long as that holds
 pub record EndSupplies (shelf : KeptMap) (I : Turn → State → Type 0) : Type 0 where
@@ -51,12 +51,7 @@ pub record HasServed (terms : List Term) (before : Log) (shelf : KeptMap) (y : M
   pub ended : HasEnded number shelf y.desk then
   pub set : StaysSet y (ending then)
 
--- this life goes astray in rounds, up to there, and replies begin behind it
-pub record ServesAstray (shelf : KeptMap) (x : Moving) (log : Log) : Type 0 where
-  pub between : Moving
-  pub out : RoundsGoAstray 65536 shelf x log between
-
--- the cache is bounded, as each is
+-- the cache is bounded, as each is; this life did not go astray, as `AllLead` of Decisions has it, and replies that begin leave that as it was
 abbrev pub ServesLead : Type 0
 ServesLead = (terms : List Term) (before : Log) (shelf : KeptMap) (test : Turn → State → Bool) (x y : Moving) (log : Log) (s : State) → RoundSupplies shelf (Passes test) → EndSupplies shelf (Passes test) → MayGoRound terms before shelf (Passes test) x log s → Serves shelf x log y
-    → IsBounded y.desk.state.cache → HasServed terms before shelf y log s ⊎ ServesAstray shelf x log
+    → IsBounded y.desk.state.cache → y.desk.state.is_astray ≡ false → HasServed terms before shelf y log s

@@ -1,7 +1,7 @@
 -- Behind the disk a turn decides, and then goes round, or at Stop closes all: from the first decision of a turn to its end (RFC 2616, sections
 -- 8.1 and 8.1.4; the order is ours). A client for whom there was no memory is left out: where one is, the law has it and the program does not,
 -- up to its cut.
-use Rattle.std.specs.Prelude.{◌≡◌, ◌⊎◌, Bool, true, false, List, [], ◌++◌, length, None}
+use Rattle.std.specs.Prelude.{◌≡◌, Bool, true, false, List, [], length, None}
 use Rattle.std.specs.List.{list_any}
 use Rattle.pp_cache.specs.Bounds.{IsBounded}
 use Rattle.pp_closings_law.specs.Log.{AreLinked}
@@ -12,7 +12,6 @@ use Rattle.pp_law.specs.Permits.{is_over as may_be_over}
 use Rattle.pp_law.specs.State.{State, Term, Deciding}
 use Rattle.pp_obeys.specs.Obeys.{Obeys}
 use Rattle.pp_places_law.specs.Closings.{AreOpen}
-use Rattle.pp_proxy.specs.Deciding.{DecidesAll}
 use Rattle.pp_proxy.specs.Moving.{Moving}
 use Rattle.pp_proxy.specs.Settling.{Settles}
 use Rattle.pp_rounds_law.specs.Coming.{Affords, ComesTo}
@@ -25,7 +24,7 @@ use Rattle.pp_state.specs.Numbers.{places}
 use Rattle.pp_state.specs.declared.state.State.{State as Turn}
 use Rattle.pp_store.specs.Kept.{KeptMap}
 use Rattle.pp_world.specs.Log.{Log}
-use Rattle.pp_rounds_law.specs.Serves.{EndSupplies, HasServed, ServesAstray}
+use Rattle.pp_rounds_law.specs.Serves.{EndSupplies, HasServed}
 
 -- ---- before Stop
 
@@ -37,20 +36,10 @@ pub record MaySettle (terms : List Term) (before : Log) (shelf : KeptMap) (I : T
   pub holds : I x.desk.state s
   pub at : s.phase ≡ Deciding
 
--- this life goes astray in the decisions, or in rounds behind them: nothing is claimed
-pub record SettlesAstray (shelf : KeptMap) (x : Moving) (log : Log) : Type 0 where
-  pub between : Moving
-  pub first : Log
-  pub rest : Log
-  pub any : Bool
-  pub log_is : log ≡ first ++ rest
-  pub decides : DecidesAll shelf x first between any
-  pub out : (between.desk.state.is_astray ≡ true) ⊎ ServesAstray shelf between rest
-
--- the cache is bounded, as each is
+-- the cache is bounded, as each is; this life did not go astray: the turn's end says so
 abbrev pub SettlesLead : Type 0
 SettlesLead = (terms : List Term) (before : Log) (shelf : KeptMap) (test : Turn → State → Bool) (x y : Moving) (log : Log) (s : State) → RoundSupplies shelf (Passes test) → EndSupplies shelf (Passes test) → MaySettle terms before shelf (Passes test) x log s → Settles shelf x log y
-    → IsBounded y.desk.state.cache → HasServed terms before shelf y log s ⊎ SettlesAstray shelf x log
+    → IsBounded y.desk.state.cache → y.desk.state.is_astray ≡ false → HasServed terms before shelf y log s
 
 -- ---- at Stop
 

@@ -20,9 +20,8 @@
 //! the log's connections, one behind the other, and the log may end. The program neither drops what nobody sees nor gives up asks then, and the
 //! law does both: of it all who is there alone is shown. `Settles`: behind the disk a turn decides, and then serves so, or stops.
 //!
-//! Decisions, places, a round and a stop lead so where this life did not go astray by their end: it does where one is left behind the 65,536 that
-//! there may be in one go. What went astray stays so (`Astray`). Where a round, or the last of 65,536, goes astray, nothing is said of what is
-//! behind it (`RoundsGoAstray`): `GivesUp` of `pp_proxy` says whether a life went astray only where asks stand in order.
+//! Decisions, places, rounds and all behind them, and a stop lead so where this life did not go astray by their end: it does where one is left
+//! behind the 65,536 that there may be in one go. What went astray stays so (`Astray`).
 //!
 //! Not said: a client for whom there was no memory, which is cut before the first decision; and a turn in which memory was refused for a row
 //! before its decisions: of theirs it was not, where this life did not go astray.
