@@ -1,3 +1,4 @@
+pub mod Awaited
 pub mod Decided
 pub mod Done
 pub mod Kept

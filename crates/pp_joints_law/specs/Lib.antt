@@ -1,3 +1,4 @@
+pub mod Awaiting
 pub mod Carried
 pub mod Closing
 pub mod Deciding
