@@ -8,3 +8,6 @@ pub mod Near
 pub mod Same
 pub mod Served
 pub mod Settled
+pub mod Settlings
+pub mod Stale
+pub mod Steady

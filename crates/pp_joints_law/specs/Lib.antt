@@ -6,3 +6,4 @@ pub mod Handled
 pub mod Keeping
 pub mod Leaving
 pub mod Serving
+pub mod Settling
