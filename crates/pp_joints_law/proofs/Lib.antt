@@ -1,3 +1,4 @@
+pub mod Asks
 pub mod Awaited
 pub mod Decided
 pub mod Done
@@ -5,6 +6,7 @@ pub mod Kept
 pub mod Left
 pub mod MayClose
 pub mod Near
+pub mod Resting
 pub mod Same
 pub mod Served
 pub mod Settled

@@ -34,4 +34,4 @@ pub use handling::memory_is_left_behind_events;
 pub use keeping::keepings_come_behind_what_leaves;
 pub use leaving::memory_may_be_left_behind_events;
 pub use serving::{turns_may_wait_behind_rounds, what_is_set_stays_set};
-pub use settling::settlings_carry;
+pub use settling::{settlings_carry, waits_carry};
