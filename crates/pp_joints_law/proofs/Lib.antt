@@ -2,6 +2,7 @@ pub mod Asks
 pub mod Awaited
 pub mod Decided
 pub mod Done
+pub mod Given
 pub mod Kept
 pub mod Left
 pub mod MayClose
