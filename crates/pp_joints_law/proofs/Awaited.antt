@@ -1,5 +1,5 @@
 -- Behind its wait a turn stands where an event is awaited.
-use Rattle.std.proofs.Common.{◌≡◌, ◌≤◌, sym, subst, ◌∙◌, ℕ, List, [], ◌∷◌}
+use Rattle.std.proofs.Common.{◌≤◌, sym, subst, ◌∙◌, ℕ, List, [], ◌∷◌}
 use Rattle.pp_closings_law.specs.Log.{AreLinked}
 use Rattle.pp_desk.specs.declared.desk.Desk.{Desk}
 use Rattle.pp_events_law.specs.Stands.{AreClients, AreOpen as AreOpenAt}

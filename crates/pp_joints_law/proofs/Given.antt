@@ -1,10 +1,10 @@
 -- Where memory was refused for no seat's row, it was for no client's, as long as nobody is closing.
-use Rattle.std.proofs.Common.{◌≡◌, ◌⊎◌, refl, sym, subst, ap, ◌∙◌, inl, inr, ℕ, suc, Bool, true, false, ◌||◌, List, [], ◌∷◌, Some}
+use Rattle.std.proofs.Common.{◌≡◌, ◌⊎◌, refl, sym, subst, ap, ◌∙◌, inl, inr, ℕ, suc, false, List, [], ◌∷◌, Some}
 use Rattle.std.specs.List.{list_any}
 use Rattle.std.specs.Prelude.{slice_get}
 use Rattle.pp_joints_law.specs.Awaiting.{GivenOnesAreTheLaws}
 use Rattle.pp_law.specs.Lists.{Bytes}
-use Rattle.pp_law.specs.State.{State, Client, Conn}
+use Rattle.pp_law.specs.State.{Client, Conn}
 use Rattle.pp_laws.specs.Runs.{IsIn}
 use Rattle.pp_seats.specs.Dues.{is_refused_in}
 use Rattle.pp_seats.specs.declared.seat.Brought.{Brought}
