@@ -1,9 +1,16 @@
+pub mod Asks
+pub mod Awaited
 pub mod Decided
 pub mod Done
+pub mod Given
 pub mod Kept
 pub mod Left
 pub mod MayClose
 pub mod Near
+pub mod Resting
 pub mod Same
 pub mod Served
 pub mod Settled
+pub mod Settlings
+pub mod Stale
+pub mod Steady

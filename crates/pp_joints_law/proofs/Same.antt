@@ -55,6 +55,33 @@ disk_as shelf p q s t same outdated lost disk = record {
 
 -- ---- what is set
 
+-- but for the room to look at clients
+pub record IsSetAlike (d e : Desk) : Type 0 where
+  pub name : e.state.name.items ≡ d.state.name.items
+  pub trigger : e.state.trigger ≡ d.state.trigger
+  pub floor : e.state.floor ≡ d.state.floor
+  pub shares : e.state.shares_fetches ≡ d.state.shares_fetches
+  pub limits : e.state.limits ≡ d.state.limits
+  pub run : e.state.run ≡ d.state.run
+  pub file : length e.file.items ≡ length d.file.items
+  pub ticked : e.state.has_ticked ≡ d.state.has_ticked
+
+pub set_from : (d e : Desk) (s t : State) → IsSetAlike d e → 256 ≤ vec_capacity e.state.awake → t.settings ≡ s.settings → t.has_ticked ≡ s.has_ticked → StandsAsSet d s → StandsAsSet e t
+set_from d e s t same room settings ticked set = record {
+  force = record {
+    name = same.name ∙ set.force.name ∙ ap (λ (c : Settings). c.name) (sym settings);
+    trigger = same.trigger ∙ set.force.trigger ∙ ap (λ (c : Settings). trigger (record s { settings = c })) (sym settings);
+    floor = same.floor ∙ set.force.floor ∙ ap (λ (c : Settings). floor (record s { settings = c })) (sym settings);
+    shares = same.shares ∙ set.force.shares ∙ ap (λ (c : Settings). c.shares_fetches) (sym settings);
+    limits = same.limits ∙ set.force.limits ∙ ap (λ (c : Settings). limits (record s { settings = c })) (sym settings);
+    run = same.run ∙ set.force.run ∙ ap (λ (c : Settings). run_len (record s { settings = c })) (sym settings);
+  };
+  few = subst (λ (c : Settings). run_len (record s { settings = c }) ≤ 64) (sym settings) set.few;
+  room = room;
+  file = same.file ∙ set.file;
+  ticked = same.ticked ∙ set.ticked ∙ sym ticked;
+}
+
 pub record IsSameDesk (d e : Desk) : Type 0 where
   pub name : e.state.name.items ≡ d.state.name.items
   pub trigger : e.state.trigger ≡ d.state.trigger
@@ -67,17 +94,5 @@ pub record IsSameDesk (d e : Desk) : Type 0 where
   pub ticked : e.state.has_ticked ≡ d.state.has_ticked
 
 pub set_as : (d e : Desk) (s t : State) → IsSameDesk d e → t.settings ≡ s.settings → t.has_ticked ≡ s.has_ticked → StandsAsSet d s → StandsAsSet e t
-set_as d e s t same settings ticked set = record {
-  force = record {
-    name = same.name ∙ set.force.name ∙ ap (λ (c : Settings). c.name) (sym settings);
-    trigger = same.trigger ∙ set.force.trigger ∙ ap (λ (c : Settings). trigger (record s { settings = c })) (sym settings);
-    floor = same.floor ∙ set.force.floor ∙ ap (λ (c : Settings). floor (record s { settings = c })) (sym settings);
-    shares = same.shares ∙ set.force.shares ∙ ap (λ (c : Settings). c.shares_fetches) (sym settings);
-    limits = same.limits ∙ set.force.limits ∙ ap (λ (c : Settings). limits (record s { settings = c })) (sym settings);
-    run = same.run ∙ set.force.run ∙ ap (λ (c : Settings). run_len (record s { settings = c })) (sym settings);
-  };
-  few = subst (λ (c : Settings). run_len (record s { settings = c }) ≤ 64) (sym settings) set.few;
-  room = subst (λ (n : ℕ). 256 ≤ n) (sym same.room) set.room;
-  file = same.file ∙ set.file;
-  ticked = same.ticked ∙ set.ticked ∙ sym ticked;
-}
+set_as d e s t same settings ticked set =
+    set_from d e s t (record { name = same.name; trigger = same.trigger; floor = same.floor; shares = same.shares; limits = same.limits; run = same.run; file = same.file; ticked = same.ticked }) (subst (λ (n : ℕ). 256 ≤ n) (sym same.room) set.room) settings ticked set

@@ -1,3 +1,4 @@
+pub mod Awaiting
 pub mod Carried
 pub mod Closing
 pub mod Deciding
@@ -5,3 +6,4 @@ pub mod Handled
 pub mod Keeping
 pub mod Leaving
 pub mod Serving
+pub mod Settling

@@ -8,25 +8,30 @@
 //! `specs/Handled.antt`: where an event is handled, the turn stands where memory may be left. `specs/Leaving.antt`: there it may, and what is
 //! carried stands behind. `specs/Keeping.antt`: then the disk may be worked on, and behind it the turn stands where decisions come next.
 //! `specs/Deciding.antt`: there decisions and rounds begin, or at Stop all is closed. `specs/Serving.antt`: where those end the turn may wait,
-//! and nothing that is set was changed. `specs/Closing.antt`: closings may come in any state of a turn.
+//! and nothing that is set was changed. `specs/Settling.antt`: what is carried stands there, and behind the wait. `specs/Awaiting.antt`: behind
+//! the wait the turn stands where an event is awaited. `specs/Closing.antt`: closings may come in any state of a turn.
 //!
-//! Not said: that what is carried stands behind an event, and from the first decision to the wait.
+//! Not said: that what is carried stands behind an event.
 //!
 //! To the layer above: each is the clause of a function that does nothing. It is one part of the proof that the program obeys the law.
 //!
 //! Takes no memory, and does nothing when the program runs.
 #![tactic(auto)]
 
+mod awaiting; // to an event
 mod closing; // closings may come
 mod deciding; // behind the disk
 mod handling; // behind an event
 mod keeping; // before and behind the disk
 mod leaving; // what leaves memory
 mod serving; // to the wait
+mod settling; // and what is carried
 
+pub use awaiting::turns_await_behind_waits;
 pub use closing::closings_may_come;
 pub use deciding::turns_decide_behind_keepings;
 pub use handling::memory_is_left_behind_events;
 pub use keeping::keepings_come_behind_what_leaves;
 pub use leaving::memory_may_be_left_behind_events;
 pub use serving::{turns_may_wait_behind_rounds, what_is_set_stays_set};
+pub use settling::{settlings_carry, waits_carry};
