@@ -39,19 +39,19 @@ module _ (number : ℕ → ℕ) (shelf : KeptMap) (before : List ℕ) (w : Wants
   pub carried_over : IsCarried shelf (with_desk f x) (rest_with w s)
   carried_over = record {
     disk = disk_as shelf x.desk.state f.state s (rest_with w s) (same_disk w s)
-      (ap (λ (d : Desk). d.state.cache.outdated) rests.rest ∙ ap (λ (d : Desk). d.state.cache.outdated) awaits.rest) (ap (λ (d : Desk). d.state.has_lost_draft) rests.rest ∙ ap (λ (d : Desk). d.state.has_lost_draft) awaits.rest) carried.disk;
+        (ap (λ (d : Desk). d.state.cache.outdated) rests.rest ∙ ap (λ (d : Desk). d.state.cache.outdated) awaits.rest) (ap (λ (d : Desk). d.state.has_lost_draft) rests.rest ∙ ap (λ (d : Desk). d.state.has_lost_draft) awaits.rest) carried.disk;
     set = set_from x.desk f s (rest_with w s)
-      (record {
-        name = ap (λ (d : Desk). d.state.name.items) rests.rest ∙ ap (λ (d : Desk). d.state.name.items) awaits.rest;
-        trigger = ap (λ (d : Desk). d.state.trigger) rests.rest ∙ ap (λ (d : Desk). d.state.trigger) awaits.rest;
-        floor = ap (λ (d : Desk). d.state.floor) rests.rest ∙ ap (λ (d : Desk). d.state.floor) awaits.rest;
-        shares = ap (λ (d : Desk). d.state.shares_fetches) rests.rest ∙ ap (λ (d : Desk). d.state.shares_fetches) awaits.rest;
-        limits = ap (λ (d : Desk). d.state.limits) rests.rest ∙ ap (λ (d : Desk). d.state.limits) awaits.rest;
-        run = ap (λ (d : Desk). d.state.run) rests.rest ∙ ap (λ (d : Desk). d.state.run) awaits.rest;
-        file = ap (λ (d : Desk). length d.file.items) rests.rest ∙ ap (λ (d : Desk). length d.file.items) awaits.rest;
-        ticked = ap (λ (d : Desk). d.state.has_ticked) rests.rest ∙ ap (λ (d : Desk). d.state.has_ticked) awaits.rest;
-      })
-      (subst (λ (n : ℕ). 256 ≤ n) (sym (ap (λ (d : Desk). vec_capacity d.state.awake) rests.rest)) room) (same_settings w s) rested.has_ticked carried.set;
+        (record {
+          name = ap (λ (d : Desk). d.state.name.items) rests.rest ∙ ap (λ (d : Desk). d.state.name.items) awaits.rest;
+          trigger = ap (λ (d : Desk). d.state.trigger) rests.rest ∙ ap (λ (d : Desk). d.state.trigger) awaits.rest;
+          floor = ap (λ (d : Desk). d.state.floor) rests.rest ∙ ap (λ (d : Desk). d.state.floor) awaits.rest;
+          shares = ap (λ (d : Desk). d.state.shares_fetches) rests.rest ∙ ap (λ (d : Desk). d.state.shares_fetches) awaits.rest;
+          limits = ap (λ (d : Desk). d.state.limits) rests.rest ∙ ap (λ (d : Desk). d.state.limits) awaits.rest;
+          run = ap (λ (d : Desk). d.state.run) rests.rest ∙ ap (λ (d : Desk). d.state.run) awaits.rest;
+          file = ap (λ (d : Desk). length d.file.items) rests.rest ∙ ap (λ (d : Desk). length d.file.items) awaits.rest;
+          ticked = ap (λ (d : Desk). d.state.has_ticked) rests.rest ∙ ap (λ (d : Desk). d.state.has_ticked) awaits.rest;
+        })
+        (subst (λ (n : ℕ). 256 ≤ n) (sym (ap (λ (d : Desk). vec_capacity d.state.awake) rests.rest)) room) (same_settings w s) rested.has_ticked carried.set;
     links = record {
       clients = subst (λ (ns : List ℕ). AreOpen ns x.links) (sym rested.clients) carried.links.clients;
       origins = subst (λ (ns : List ℕ). AreLinked ns x.links) (sym rested.origins) carried.links.origins;

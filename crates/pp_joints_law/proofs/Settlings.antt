@@ -85,17 +85,17 @@ module _ (terms : List Term) (before : Log) (shelf : KeptMap) (x y : Moving) (lo
       kept = carried.disk.kept;
     };
     set = set_from x.desk y.desk s t
-      (record {
-        name = ap (λ (d : Desk). d.state.name.items) work;
-        trigger = ap (λ (d : Desk). d.state.trigger) work;
-        floor = ap (λ (d : Desk). d.state.floor) work;
-        shares = ap (λ (d : Desk). d.state.shares_fetches) work;
-        limits = ap (λ (d : Desk). d.state.limits) work;
-        run = ap (λ (d : Desk). d.state.run) work;
-        file = ap (λ (d : Desk). length d.file.items) work;
-        ticked = ap (λ (d : Desk). d.state.has_ticked) work;
-      })
-      it.set.room ((parts_of at_end).settings_is ∙ on_disk.settings) (ap (λ (f : Frame). f.has_ticked) (ending-frame true it.then) ∙ on_clock.ticked) carried.set;
+        (record {
+          name = ap (λ (d : Desk). d.state.name.items) work;
+          trigger = ap (λ (d : Desk). d.state.trigger) work;
+          floor = ap (λ (d : Desk). d.state.floor) work;
+          shares = ap (λ (d : Desk). d.state.shares_fetches) work;
+          limits = ap (λ (d : Desk). d.state.limits) work;
+          run = ap (λ (d : Desk). d.state.run) work;
+          file = ap (λ (d : Desk). length d.file.items) work;
+          ticked = ap (λ (d : Desk). d.state.has_ticked) work;
+        })
+        it.set.room ((parts_of at_end).settings_is ∙ on_disk.settings) (ap (λ (f : Frame). f.has_ticked) (ending-frame true it.then) ∙ on_clock.ticked) carried.set;
     links = record { clients = it.set.seated; origins = it.set.linked; given = it.set.given; few = it.set.few; top = it.set.top };
     waiting = it.set.waiting;
     placed = it.set.placed;
