@@ -1,12 +1,11 @@
 -- Memory was given for the key of each head that was read in an event, in a life that did not go astray by it.
-use Rattle.std.proofs.Common.{◌≡◌, ◌⊎◌, inl, inr, refl, sym, subst, ap, ap₂, ◌∙◌, ℕ, zero, suc, Bool, true, false, ◌&&◌, ◌==◌, cond, find, length, map, max, nat_lt, List, [], ◌∷◌, ◌++◌, Option, Some, None, option_and_then, Result, Ok, Err}
+use Rattle.std.proofs.Common.{◌≡◌, inl, inr, refl, sym, subst, ap, ap₂, ◌∙◌, ℕ, zero, suc, Bool, true, false, cond, find, map, max, List, [], ◌∷◌, ◌++◌, Option, Some, None, option_and_then, Ok, Err}
 use Rattle.std.specs.Prelude.{slice_get}
 use Rattle.pp_decide.specs.Patience.{is_leap}
 use Rattle.pp_desk.specs.Calls.{Took}
-use Rattle.pp_desk.specs.Closings.{Sides, closed_client, closed_conn, peer_numbers, sides, with_parts}
+use Rattle.pp_desk.specs.Closings.{Sides, closed_conn, peer_numbers, sides, with_parts}
 use Rattle.pp_desk.specs.Marks.{marked_seat, touched}
 use Rattle.pp_desk.specs.Origins.{without_idle}
-use Rattle.pp_desk.specs.Replies.{EndsReplies}
 use Rattle.pp_desk.specs.declared.desk.Desk.{Desk}
 use Rattle.pp_due.specs.OnDisk.{next_on_disk}
 use Rattle.pp_due.specs.Waits.{is_waiting, woken_by, woken_seat}
@@ -26,8 +25,8 @@ use Rattle.pp_origins.specs.Asked.{AsksBy, BodyIsAsked, TakenAs, TextIsAsked, bo
 use Rattle.pp_origins.specs.Responses.{brought_by, closed_unless, ended_by, ending_by, finished, goes_on_by, origin_gone, response_whole, whole_for, whole_where}
 use Rattle.pp_peers.specs.Peers.{is_number}
 use Rattle.pp_peers.specs.declared.peers.Peer.{Peer}
-use Rattle.pp_proxy.specs.Accepting.{IsAccepted, IsSeated, IsTurnedAway, newcomer}
-use Rattle.pp_proxy.specs.Handling.{AsksOn, Breaks, Handles, Reaches, ReadsBy, SaysAt, Stops, TicksOn, Wakes, WritesBy}
+use Rattle.pp_proxy.specs.Accepting.{IsAccepted, IsSeated, newcomer}
+use Rattle.pp_proxy.specs.Handling.{AsksOn, Breaks, Reaches, ReadsBy, SaysAt, Stops, TicksOn, Wakes, WritesBy}
 use Rattle.pp_proxy.specs.Leaving.{Regains}
 use Rattle.pp_proxy.specs.Moving.{Turning, at_desk}
 use Rattle.pp_proxy.specs.Ticks.{second_begun}
@@ -48,7 +47,6 @@ use Rattle.pp_store.specs.Kept.{KeptMap}
 use Rattle.pp_talk.specs.Loading.{Answer, LoadsOf, LoadsWhere, TakesChunk, chunk_at}
 use Rattle.pp_talk.specs.Talking.{IsWrittenAt, said_as, told_in}
 use Rattle.pp_world.specs.Log.{Log}
-use Rattle.pp_world.specs.declared.event.Event.{Event}
 use Rattle.pp_world.specs.declared.event.Event.TheVariants.{Stop, Tick, Accepted, Readable, Writable, Reached, Broken}
 use Rattle.pp_events_law.proofs.Anew.{all_anew}
 use Rattle.pp_events_law.proofs.Closed.{all_idle_on, closes}

@@ -1,5 +1,5 @@
 -- Memory was given for the key of each head that was read where replies end, and where a client is read, in a life that did not go astray by it.
-use Rattle.std.proofs.Common.{◌≡◌, refl, sym, subst, ap, ◌∙◌, ℕ, Bool, true, false, cond, List, [], ◌∷◌, Option, Some, None, Ok, Err}
+use Rattle.std.proofs.Common.{◌≡◌, refl, subst, ap, ℕ, Bool, true, false, cond, List, [], ◌∷◌, Option, Some, None, Ok, Err}
 use Rattle.std.specs.Prelude.{slice_get}
 use Rattle.pp_client.specs.Clients.{said_by}
 use Rattle.pp_desk.specs.Calls.{Found}

@@ -1,5 +1,5 @@
 -- Where connections to origins are closed, no life goes astray.
-use Rattle.std.proofs.Common.{◌≡◌, refl, ◌∙◌, ℕ, zero, suc, Bool, true, false, ◌&&◌, not, cond, find, List, [], ◌∷◌, Option, Some, None, option_and_then}
+use Rattle.std.proofs.Common.{◌≡◌, refl, ◌∙◌, ℕ, zero, suc, Bool, true, false, ◌&&◌, not, cond, find, List, [], ◌∷◌, Option, Some, None}
 use Rattle.std.specs.List.{fold}
 use Rattle.pp_desk.specs.Closings.{Sides, closed_conn, closed_line, with_parts}
 use Rattle.pp_desk.specs.Origins.{given_up, is_idle_in, patience_ended, unanswered, without_idle_on}
@@ -16,7 +16,7 @@ use Rattle.pp_seats.specs.declared.seat.Course.TheVariants.{OutOfTries}
 use Rattle.pp_seats.specs.declared.seat.PassedEnd.TheVariants.{Short}
 use Rattle.pp_seats.specs.declared.seat.Seat.{Seat}
 use Rattle.pp_state.specs.Asking.{owed_answer}
-use Rattle.pp_state.specs.Ends.{Parts, asked_elsewhere, charged, charged_at, charged_where, cleared_of, cleared_row, cut_short, dropped_row, ended, exchange_at, failed, given_up_row, is_unfilled_at, left_place, left_place_at, lost_attempt, lost_place, may_go_elsewhere, on_seat, on_seat_where, seat_for, with_course}
+use Rattle.pp_state.specs.Ends.{Parts, asked_elsewhere, charged, charged_at, charged_where, cleared_of, cleared_row, cut_short, dropped_row, ended, exchange_at, given_up_row, is_unfilled_at, left_place, left_place_at, lost_attempt, lost_place, may_go_elsewhere, on_seat, on_seat_where, seat_for, with_course}
 use Rattle.pp_state.specs.Keys.{key_of}
 use Rattle.pp_state.specs.Lines.{first_on, lost_line}
 
