@@ -30,6 +30,7 @@ mod clears; // a head that came, with what stands before it
 mod data; // data of a response
 mod empties; // the end of an empty body
 mod getting; // an origin is read, and replies that are over end
+mod giving; // memory for the keys of heads that are read in an event
 mod heads; // the final head of a response
 mod pauses; // no byte is left amid a body
 mod pieces; // what a read brings amid a body
@@ -46,6 +47,7 @@ pub use clears::heads_are_got_there;
 pub use data::data_come_as_the_laws;
 pub use empties::empty_bodies_end_as_the_laws;
 pub use getting::origins_are_read_as_by_the_law;
+pub use giving::events_give_keys_unless_astray;
 pub use heads::heads_come_as_the_laws;
 pub use pauses::pauses_change_nothing;
 pub use pieces::bodies_are_read_as_the_laws;
