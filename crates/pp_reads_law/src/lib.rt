@@ -13,7 +13,8 @@
 //! `Readable` has the event, from where the read is owed and from the wait on: nothing came yet, the connection ended or broke, or bytes came.
 //! Behind what came replies that are over end, and attempts count anew. `Brings` says what each piece of the bytes rests on, beside what a turn
 //! shows, `Goes` that who is answered can go on to the next request, and `Stays` what a read leaves as it was of clients, of connections, and of
-//! what the turn knows beside them.
+//! what the turn knows beside them. `Keys` has of each event that memory was given for the key of each head that was read, in a life that did
+//! not go astray by it.
 //!
 //! Not said: a head to the ask of a follower, and one that is passed and names other places; and which replies end behind a read, which is in
 //! `pp_endings_law`. Nor is anything said of a turn in which memory was refused for a row.
