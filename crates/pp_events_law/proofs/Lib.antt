@@ -20,6 +20,9 @@ pub mod HandledBehind
 pub mod Heard
 pub mod Hears
 pub mod Kept
+pub mod KeysGiven
+pub mod KeysHeard
+pub mod KeysKept
 pub mod LastBytes
 pub mod LastSaid
 pub mod Left
@@ -36,6 +39,7 @@ pub mod ReadWhole
 pub mod ReadyBehind
 pub mod Rests
 pub mod SaidAll
+pub mod SameAstray
 pub mod Sayings
 pub mod Sourced
 pub mod Standing

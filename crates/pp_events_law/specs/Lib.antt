@@ -2,6 +2,7 @@ pub mod Anew
 pub mod Asks
 pub mod Breaks
 pub mod Hears
+pub mod Keys
 pub mod Loads
 pub mod Losses
 pub mod Readable

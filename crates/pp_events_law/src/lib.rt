@@ -6,7 +6,8 @@
 //! write comes to be owed; `specs/Hears.antt` has the read of a client and `specs/Asks.antt` the write to an origin, from there on, and
 //! `specs/Readable.antt` and `specs/Writable.antt` the same from the wait on. Behind each attempts count anew (`specs/Anew.antt`), and the
 //! turn stands at the law's state, from which it leaves the event. Behind each, too, each client that goes on can be decided: behind a read,
-//! a write or a break as long as memory was given for the key of each head that was read (`specs/Ready.antt`).
+//! a write or a break as long as memory was given for the key of each head that was read (`specs/Ready.antt`): in a life that did not go
+//! astray it was (`specs/Keys.antt`).
 //!
 //! `specs/Says.antt` has the write to a client for whom nothing has to be read back before: some of its reply is said, and the chunks of what
 //! was said are the ones used last; behind the last bytes the reply is over, and the next request stands or the client is closed; or the
@@ -32,6 +33,7 @@
 mod asking; // an origin is asked
 mod behind; // attempts count anew
 mod breaking; // a connection to an origin breaks
+mod giving; // memory for the keys of heads that are read
 mod loading; // a chunk is read back before a write
 mod owing; // a read or a write is owed
 mod reading; // a client is read
@@ -41,6 +43,7 @@ mod silent; // events that add nothing to the log
 pub use asking::origins_are_asked_as_by_the_law;
 pub use behind::attempts_count_behind_events_as_by_the_law;
 pub use breaking::connections_break_as_by_the_law;
+pub use giving::keys_are_given_unless_astray;
 pub use loading::{chunks_are_read_back_as_by_the_law, writes_lead_behind_reads_as_by_the_law};
 pub use owing::{clients_are_owed_as_by_the_law, origins_are_owed_as_by_the_law};
 pub use reading::clients_are_heard_as_by_the_law;

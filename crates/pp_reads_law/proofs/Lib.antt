@@ -19,6 +19,7 @@ pub mod Given
 pub mod Going
 pub mod Gotten
 pub mod HeadsCome
+pub mod KeysGiven
 pub mod Knows
 pub mod Lost
 pub mod NotYet

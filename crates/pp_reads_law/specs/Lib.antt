@@ -9,6 +9,7 @@ pub mod Goes
 pub mod Gots
 pub mod Heads
 pub mod Interims
+pub mod Keys
 pub mod Pauses
 pub mod Pieces
 pub mod Readable

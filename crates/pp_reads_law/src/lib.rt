@@ -13,7 +13,8 @@
 //! `Readable` has the event, from where the read is owed and from the wait on: nothing came yet, the connection ended or broke, or bytes came.
 //! Behind what came replies that are over end, and attempts count anew. `Brings` says what each piece of the bytes rests on, beside what a turn
 //! shows, `Goes` that who is answered can go on to the next request, and `Stays` what a read leaves as it was of clients, of connections, and of
-//! what the turn knows beside them.
+//! what the turn knows beside them. `Keys` has of each event that memory was given for the key of each head that was read, in a life that did
+//! not go astray by it.
 //!
 //! Not said: a head to the ask of a follower, and one that is passed and names other places; and which replies end behind a read, which is in
 //! `pp_endings_law`. Nor is anything said of a turn in which memory was refused for a row.
@@ -30,6 +31,7 @@ mod clears; // a head that came, with what stands before it
 mod data; // data of a response
 mod empties; // the end of an empty body
 mod getting; // an origin is read, and replies that are over end
+mod giving; // memory for the keys of heads that are read in an event
 mod heads; // the final head of a response
 mod pauses; // no byte is left amid a body
 mod pieces; // what a read brings amid a body
@@ -46,6 +48,7 @@ pub use clears::heads_are_got_there;
 pub use data::data_come_as_the_laws;
 pub use empties::empty_bodies_end_as_the_laws;
 pub use getting::origins_are_read_as_by_the_law;
+pub use giving::events_give_keys_unless_astray;
 pub use heads::heads_come_as_the_laws;
 pub use pauses::pauses_change_nothing;
 pub use pieces::bodies_are_read_as_the_laws;
