@@ -65,5 +65,5 @@ pub events_give : EventsGiveKeys
 events_give event x y room handles =
     handles_give event x y
     (λ k woken wakes receives.
-        keeps (parts x.moving.desk.state) (parts y.moving.desk.state)
-        (gives_then (parts x.moving.desk.state) (parts woken.state) (parts y.moving.desk.state) (wakes_give k x.moving.desk woken wakes) (receives_give k (at_desk woken x) y (woken_room k x woken wakes room) receives))) handles
+    keeps (parts x.moving.desk.state) (parts y.moving.desk.state)
+    (gives_then (parts x.moving.desk.state) (parts woken.state) (parts y.moving.desk.state) (wakes_give k x.moving.desk woken wakes) (receives_give k (at_desk woken x) y (woken_room k x woken wakes room) receives))) handles
