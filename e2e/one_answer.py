@@ -11,7 +11,7 @@ import time
 from harness import case, equal, holds, lasting, together
 from origin import chunked, lines, noise, part, response
 from played import Played
-from world import LENGTH_REQUIRED, Client, reply, reply_head
+from world import BAD_GATEWAY, LENGTH_REQUIRED, Client, reply, reply_head
 
 OK = b"HTTP/1.1 200 OK"
 TAG = b'ETag: "x"'
@@ -265,3 +265,26 @@ def an_empty_transfer_coding_is_refused(world):
         for length in [[], [b"Content-Length: 5"]]:
             text = world.request("/a", b"Transfer-Encoding:" + value, *length, method="POST")
             world.expect_answer(text + b"hello", LENGTH_REQUIRED, f"the reply to the coding {value!r}")
+
+
+@case
+def what_turns_out_bad_as_it_comes_is_told_at_once(world):
+    """In one read come the next byte of a client, to the ask of another, and to its own a response whose body is none."""
+    body = noise(9000)
+    with world.anew("diskRun=1", "pipelineAsks=1", "hostConnections=1") as proxy, Played() as origin:
+        with Client(port=proxy.port) as client, Client(port=proxy.port) as other:
+            client.say(origin.request("/d", b"Range: bytes=0-3"))
+            front = origin.take("the ask for the front")
+            other.say(origin.request("/d", b"Range: bytes=5000-5003"))
+            time.sleep(MOMENT)
+            front.say(span(0, 3, body=body))
+            client.hear_until(body[:4])
+            part_of_other = origin.take("the ask for the other's part")
+            client.say(origin.request("/d", b"Range: bytes=5000-5003"))
+            hole = origin.take("the ask for the same")
+            holds(hole.connection is part_of_other.connection, "both on one connection")
+            bad = lines(b"HTTP/1.1 404 Not Found", b"Transfer-Encoding: chunked") + b"zz\r\n"
+            part_of_other.say(span(4096, 5003, body=body) + bad)
+            client.expect(BAD_GATEWAY, "the page that says so")
+            origin.take("the ask of the other, anew").say(span(4096, 5003, body=body))
+            holds(other.hear_until(body[5000:5004]).endswith(body[5000:5004]), "the other's part")

@@ -1,7 +1,8 @@
 -- Attempts count anew of those who are looked at, and of the others none would.
-use Rattle.std.proofs.Common.{◌≡◌, refl, sym, subst, ap, ap₂, ◌∙◌, ℕ, zero, suc, Bool, true, false, ◌==◌, ◌||◌, not, cond, map, List, [], ◌∷◌, Option, Some, None, arith}
+use Rattle.std.proofs.Common.{◌≡◌, refl, sym, subst, ap, ap₂, ◌∙◌, ℕ, zero, suc, Bool, true, false, ◌==◌, ◌&&◌, ◌||◌, not, cond, map, is_some, List, [], ◌∷◌, Option, Some, None, arith}
 use Rattle.std.proofs.lemmas.Bool.Decides.{nat_tests}
 use Rattle.std.specs.Prelude.{slice_get, slice_set}
+use Rattle.pp_client.specs.Replies.{Reply as Said}
 use Rattle.pp_cache.specs.Memory.{Memory}
 use Rattle.pp_cache_law.proofs.Alike.{held_of}
 use Rattle.pp_cache_law.proofs.Framing.{frames_of, the_same}
@@ -16,26 +17,29 @@ use Rattle.pp_flow_law.specs.Tables.{Leaving}
 use Rattle.pp_turns_law.specs.Nexts.{IsNext}
 use Rattle.pp_law.specs.Connections.{anew, exchange}
 use Rattle.pp_law.specs.Lists.{Bytes, has_number, is_some_with}
-use Rattle.pp_law.specs.Replies.{regained as regained_by_law, regained_by}
-use Rattle.pp_law.specs.Stages.{reply_of}
-use Rattle.pp_law.specs.State.{State, Client}
+use Rattle.pp_law.specs.Replies.{is_regained as is_regained_by_law, regained as regained_by_law, regained_by}
+use Rattle.pp_law.specs.Requests.{Front}
+use Rattle.pp_law.specs.Stages.{passed_of, reply_of}
+use Rattle.pp_law.specs.State.{State, Client, Passed}
 use Rattle.pp_law.specs.Table.{Next, follows, is_next_held, next_in, next_of as next_of_law}
 use Rattle.pp_peers.specs.declared.peers.Peer.{Peer}
 use Rattle.pp_seats.specs.Follows.{answer_in, next_by, next_of}
 use Rattle.pp_seats.specs.Heads.{is_there_in}
-use Rattle.pp_seats.specs.Seats.{is_silent, is_undecided_in}
+use Rattle.pp_seats.specs.Seats.{is_silent, is_undecided_in, passed_in}
 use Rattle.pp_seats.specs.declared.seat.Course.TheVariants.{Trying as IsTrying}
 use Rattle.pp_seats.specs.declared.seat.Next.{Next as SeatNext}
+use Rattle.pp_seats.specs.declared.seat.Passed.{Passed as SeatPassed}
 use Rattle.pp_seats.specs.declared.seat.Seat.{Seat}
 use Rattle.pp_seats.specs.declared.seat.Stage.{Stage as SeatStage}
 use Rattle.pp_seats.specs.declared.seat.Stage.TheVariants.{Undecided as IsUndecided, Waiting as IsWaiting, Passing as IsPassing, Answering as IsAnswering}
 use Rattle.pp_seats_law.proofs.Fates.{counts_anew}
 use Rattle.pp_seats_law.proofs.Nexts.{nexts}
+use Rattle.pp_seats_law.proofs.Stages.{passed}
 use Rattle.pp_seats_law.specs.Clients.{AreShown}
 use Rattle.pp_seats_law.specs.Seats.{ShowsSeat}
-use Rattle.pp_seats_law.specs.Words.{ShowsNext}
+use Rattle.pp_seats_law.specs.Words.{ShowsMaybePassed, ShowsNext}
 use Rattle.pp_states_law.proofs.Asked.{all_as, frames, itself}
-use Rattle.pp_state.specs.Ends.{AreInOrder, all_regained, changed_at, is_held_next, numbers_of, regained}
+use Rattle.pp_state.specs.Ends.{AreInOrder, all_regained, changed_at, is_held_next, is_regained, numbers_of, regained}
 use Rattle.pp_state.specs.declared.state.State.{State as Turn}
 use Rattle.pp_turns_law.proofs.Asleep.{silent_first}
 use Rattle.pp_decides_law.specs.Regains.{RegainsAreTheLaws}
@@ -59,14 +63,14 @@ get_other (suc j) (suc i) (seat ∷ seats) y isnt = get_other j i seats y (sym (
 -- ---- each of those is looked at once or more, and the others stay
 
 twice : (m : Memory) (seat : Seat) → regained m (regained m seat) ≡ regained m seat
-twice m seat = by (is_held_next (next_of seat) m) refl
+twice m seat = by (is_regained m seat) refl
   where
     at : (b : Bool) → cond b (record seat { course = IsTrying 0 }) (record seat { course = IsTrying 0 }) ≡ record seat { course = IsTrying 0 }
     at true = refl
     at false = refl
 
-    by : (b : Bool) → is_held_next (next_of seat) m ≡ b → regained m (cond b (record seat { course = IsTrying 0 }) seat) ≡ cond b (record seat { course = IsTrying 0 }) seat
-    by true is = at (is_held_next (next_of seat) m)
+    by : (b : Bool) → is_regained m seat ≡ b → regained m (cond b (record seat { course = IsTrying 0 }) seat) ≡ cond b (record seat { course = IsTrying 0 }) seat
+    by true is = at (is_regained m seat)
     by false is = ap (λ (b : Bool). cond b (record seat { course = IsTrying 0 }) seat) is
 
 fixed_on : (m : Memory) (j : ℕ) (js : List ℕ) (seats : List Seat) → ((i : ℕ) (seat : Seat) → slice_get seats i ≡ Some seat → has_number i (j ∷ js) ≡ false → regained m seat ≡ seat)
@@ -126,10 +130,16 @@ next_none seat is = by seat.is_closing (at seat.stage is)
 
 asleep_same : (m : Memory) (seat : Seat) → is_silent seat ≡ true → regained m seat ≡ seat
 asleep_same m seat silent =
-    ap (λ (o : Option SeatNext). cond (is_held_next o m) (record seat { course = IsTrying 0 }) seat)
+    ap (λ (o : Option SeatNext). cond (is_held_next o m && not (is_some (passed_in seat.brought))) (record seat { course = IsTrying 0 }) seat)
     (next_none seat (silent_first (is_undecided_in seat.stage) (not (is_there_in seat.front)) (not seat.has_hung_up) (not seat.is_closing) silent))
 
 -- ---- one seat
+
+as_passed : (name : Bytes) (said : Said) (front : Front) (x : Option SeatPassed) (p : Option Passed) → ShowsMaybePassed name said front x p → is_some x ≡ is_some p
+as_passed name said front None None shows = refl
+as_passed name said front (Some x) (Some p) shows = refl
+as_passed name said front None (Some p) shows = absurd shows
+as_passed name said front (Some x) None shows = absurd shows
 
 module _ (number : ℕ → ℕ) (l : Leaving) (peers : List Peer) (p : Turn) (s : State) (shows : ShowsTurn number l peers p s) where
   held_as : (name : Bytes) (seat : Seat) (c : Client) → ShowsSeat number name [] seat c → (c.is_closing ≡ false → IsFollowing p.cache seat) → is_held_next (next_of seat) p.cache ≡ is_some_with (is_next_held s) (next_of_law s c)
@@ -152,8 +162,19 @@ module _ (number : ℕ → ℕ) (l : Leaving) (peers : List Peer) (p : Turn) (s 
           (λ n j own law. is_next number l peers p s name seat c n j shows seen going (there going) own law
           (subst (λ (y : Option Next). ShowsNext number (Some n) y) law (subst (λ (x : Option SeatNext). ShowsNext number x (next_of_law s c)) own (nexts number s name [] seat c seen (λ on. has_source number l peers p s name seat c shows seen going (there going))))))
 
+  as_regained : (name : Bytes) (seat : Seat) (c : Client) → ShowsSeat number name [] seat c → (c.is_closing ≡ false → IsFollowing p.cache seat) → is_regained p.cache seat ≡ is_regained_by_law s c
+  as_regained name seat c seen there = by c.is_closing refl
+    where
+      by : (b : Bool) → c.is_closing ≡ b → is_regained p.cache seat ≡ is_regained_by_law s c
+      by true closing =
+          ap (λ (b : Bool). is_held_next (elim b as (λ t. Option SeatNext) [ true ↦ None | false ↦ next_by (answer_in seat.stage) seat.client.reply ]) p.cache && not (is_some (passed_in seat.brought))) (seen.closing ∙ closing)
+          ∙ sym (ap (λ (b : Bool). is_some_with (is_next_held s) (elim b as (λ t. Option Next) [ true ↦ None | false ↦ elim (reply_of c) as (λ t. Option Next) [ None ↦ None | Some r ↦ next_in s r ] ]) && not (is_some (passed_of c))) closing)
+      by false going =
+          ap₂ (λ (held passes : Bool). held && not passes) (held_as name seat c seen there)
+          (as_passed name seat.client.reply c.front (passed_in seat.brought) (passed_of c) (passed number name [] seat c (seen.going going)))
+
   one_regains : (name : Bytes) (seat : Seat) (c : Client) → ShowsSeat number name [] seat c → (c.is_closing ≡ false → IsFollowing p.cache seat) → ShowsSeat number name [] (regained p.cache seat) (regained_by s c)
-  one_regains name seat c seen there = by (is_held_next (next_of seat) p.cache) (is_some_with (is_next_held s) (next_of_law s c)) (held_as name seat c seen there)
+  one_regains name seat c seen there = by (is_regained p.cache seat) (is_regained_by_law s c) (as_regained name seat c seen there)
     where
       by : (a b : Bool) → a ≡ b → ShowsSeat number name [] (cond a (record seat { course = IsTrying 0 }) seat) (elim b as (λ t. Client) [ true ↦ record c { course = anew c.course } | false ↦ c ])
       by true true same = counts_anew number name [] seat c seen
@@ -173,14 +194,14 @@ module _ (number : ℕ → ℕ) (l : Leaving) (peers : List Peer) (p : Turn) (s 
 
 same_numbers : (m : Memory) (seats : List Seat) → numbers_of (map (regained m) seats) ≡ numbers_of seats
 same_numbers m [] = refl
-same_numbers m (seat ∷ seats) = ap₂ (λ (n : ℕ) (ns : List ℕ). n ∷ ns) (by (is_held_next (next_of seat) m)) (same_numbers m seats)
+same_numbers m (seat ∷ seats) = ap₂ (λ (n : ℕ) (ns : List ℕ). n ∷ ns) (by (is_regained m seat)) (same_numbers m seats)
   where
     by : (b : Bool) → (cond b (record seat { course = IsTrying 0 }) seat).client.id ≡ seat.client.id
     by true = refl
     by false = refl
 
 follows_same : (s : State) (id : ℕ) (c : Client) → follows id (regained_by s c) ≡ follows id c
-follows_same s id c = by (is_some_with (is_next_held s) (next_of_law s c))
+follows_same s id c = by (is_regained_by_law s c)
   where
     by : (b : Bool) → follows id (elim b as (λ t. Client) [ true ↦ record c { course = anew c.course } | false ↦ c ]) ≡ follows id c
     by true = refl

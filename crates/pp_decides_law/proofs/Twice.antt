@@ -2,11 +2,11 @@
 use Rattle.std.proofs.Common.{◌≡◌, refl, ap, ap₂, ◌∙◌, Bool, true, false, List, [], ◌∷◌, find, map, Option, Some, None}
 use Rattle.pp_law.specs.Connections.{anew}
 use Rattle.pp_law.specs.Followers.{give_up_asks}
-use Rattle.pp_law.specs.Lists.{Bytes, is_some_with}
-use Rattle.pp_law.specs.Replies.{regained, regained_by}
+use Rattle.pp_law.specs.Lists.{Bytes}
+use Rattle.pp_law.specs.Replies.{is_regained, regained, regained_by}
 use Rattle.pp_law.specs.State.{State, Client, Course, Entry, AskTooLong, OutOfTries, RowRefused, Trying}
 use Rattle.pp_law.specs.Store.{note_gone, remove_entry}
-use Rattle.pp_law.specs.Table.{is_entry_of, is_next_held, next_of}
+use Rattle.pp_law.specs.Table.{is_entry_of}
 use Rattle.pp_decides_law.specs.Regains.{RegainsOnce}
 use Rattle.pp_decides_law.specs.Useless.{GivenUpBesideGone}
 
@@ -18,7 +18,7 @@ anew_once OutOfTries = refl
 anew_once AskTooLong = refl
 anew_once RowRefused = refl
 
-once_by : (s : State) (c : Client) (held : Bool) → is_some_with (is_next_held s) (next_of s c) ≡ held
+once_by : (s : State) (c : Client) (held : Bool) → is_regained s c ≡ held
     → regained_by s (elim held as (λ x. Client) [ true ↦ record c { course = anew c.course } | false ↦ c ]) ≡ (elim held as (λ x. Client) [ true ↦ record c { course = anew c.course } | false ↦ c ])
 once_by s c true is =
     ap (λ (b : Bool). elim b as (λ x. Client) [ true ↦ record c { course = anew (anew c.course) } | false ↦ record c { course = anew c.course } ]) is ∙ ap (λ (course : Course). record c { course = course }) (anew_once c.course)
@@ -26,7 +26,7 @@ once_by s c false is = ap (λ (b : Bool). elim b as (λ x. Client) [ true ↦ re
 
 all_once : (s : State) (cs : List Client) → map (regained_by s) (map (regained_by s) cs) ≡ map (regained_by s) cs
 all_once s [] = refl
-all_once s (c ∷ cs) = ap₂ (λ (d : Client) (ds : List Client). d ∷ ds) (once_by s c (is_some_with (is_next_held s) (next_of s c)) refl) (all_once s cs)
+all_once s (c ∷ cs) = ap₂ (λ (d : Client) (ds : List Client). d ∷ ds) (once_by s c (is_regained s c) refl) (all_once s cs)
 
 pub regains_once : RegainsOnce
 unfolding regained

@@ -36,7 +36,8 @@ pub record CutsAsTheLaw (i : ℕ) (cause : Cause) (peers : List Peer) (q : Turn)
   pub number : ℕ → ℕ
   pub shows : ShowsSides number q.name.items (closed_client i (record { parts = parts q; peers = peers })) (behind_cut seat.client.id s)
 
--- IsSoundTurn has what MayClose has, but that more of a response that is passed is to come as long as its exchange is there: no source yet
+-- IsSoundTurn has what MayClose has, but that more of a response that is passed is to come as long as its exchange is there: `pp_rests_law` has
+-- all of it
 abbrev pub CutsLead : Type 0
 CutsLead = (number : ℕ → ℕ) (peers : List Peer) (shelf : KeptMap) (i : ℕ) (cause : Cause) (p q : Turn) (s : State) (seat : Seat) (c : Client) → StandsToDecide number peers shelf p s → IsSoundTurn s → MayClose s → IsCutNext shelf i cause p q s seat c → CutsAsTheLaw i cause peers q s seat
 

@@ -88,20 +88,19 @@ MayDoNext name i Head p s seat c = MayFollowNext i p s c
 MayDoNext name i NotModified p s seat c = MayFollowNext i p s c
 MayDoNext name i Unsatisfiable p s seat c = MayFollowNext i p s c
 
--- what it rests on beside that
+-- what it rests on beside that: `pp_rests_law` has it, of each decision that is found beside a lawful log, where no count ends at 2 ^ 64
 pub record RestsOn (i : ℕ) (due : Decision) (p q : Turn) (s : State) (seat : Seat) (c : Client) : Type 0 where
-  -- an ask has memory: IsSoundTurn bounds the exchanges until Stop, and IsReady has that its key was not refused any; that no count ends
-  -- at 2 ^ 64 has no source yet
+  -- an ask has memory: IsSoundTurn bounds the exchanges until Stop, and IsReady has that its key was not refused any
   pub affords : afforded i due q ≡ due
   -- one for want of memory brings no row in: the clause of `first_due`, where no head is refused with 500
   pub bare : is_for_memory due ≡ true → key_at i p ≡ None
-  -- what is no head was not decided before: no source yet
+  -- what is no head was not decided before
   pub first : (is_undecided c.stage || is_some (parsed_in c.front)) ≡ true
-  -- no exchange is nobody's and nowhere: so behind Evicting, where those are given up; no source yet
+  -- no exchange is nobody's and nowhere: so behind Evicting, where those are given up
   pub going : list_any is_over s.exchanges ≡ false
   -- IsSoundTurn, of the law's
   pub busy : length (filter_map busy_row (exchanges_of q.flow)) ≤ 64
-  -- the row that has to leave did not come in this turn: no source yet (320 are busy and 16 new at most)
+  -- the row that has to leave did not come in this turn: 320 are busy and 16 new at most
   pub old : (x : Known) → forgets_next s (first_due s) ≡ true → idle_row s ≡ Some x → x.is_new ≡ false
   -- by its kind
   pub may : MayDoNext q.name.items i due (parts (given_way due i q)) (with_row_if (key_at i p) (to_take due s)) seat c

@@ -1,5 +1,5 @@
 // What is waited for of the clients, and what a wait changes. It is ours.
-ghost use Rattle.std.specs.Prelude.{◌≡◌, filter, map};
+ghost use Rattle.std.specs.Prelude.{◌≡◌, filter, map, vec_capacity};
 ghost use Rattle.std.specs.List.{fold};
 ghost use Rattle.pp_state.specs.Ends.{AreInOrder, changed_at, numbers_of};
 ghost use Rattle.pp_state.specs.Readers.{furthest_read, is_brought_to, is_far_ahead, is_past, next_at, read_at};
@@ -28,6 +28,7 @@ const CHUNKS_AHEAD: u64 = 256;
 /// out. Where all are, as behind a tick or where a client left, the list is written anew.
 pub fn note_clients(state: &mut State, wants: &mut Wants)
     ensures awake { state.new.awake.items ≡ filter (is_loud state.old.seats.items) state.old.awake.items }
+    ensures room { vec_capacity state.new.awake ≡ vec_capacity state.old.awake }
     ensures read { AreInOrder wants.old.read.items → wants.new.read.items ≡ all_read state.old wants.old.read.items }
     ensures write { wants.new.write.items ≡ all_written state.old wants.old.write.items }
     ensures accept { wants.new.accept ≡ wants.old.accept }
@@ -223,7 +224,8 @@ fn note_written(written: &mut ArrayVec<u64, MOST>, id: u64, is_written: bool)
 
 /// Whoever is silent is not looked at.
 fn keep_loud(seats: &[Seat], awake: &mut Vec<usize>)
-    ensures { awake.new.items ≡ filter (is_loud seats.now) awake.old.items }
+    ensures is { awake.new.items ≡ filter (is_loud seats.now) awake.old.items }
+    ensures room { vec_capacity awake.new ≡ vec_capacity awake.old }
 {
     awake.retain(|i| is_loud(seats, *i));
 }

@@ -3,16 +3,16 @@ use Rattle.std.proofs.Common.{◌≡◌, refl, ap, ap₂, ◌∙◌, ℕ, Bool, 
 use Rattle.pp_cache.specs.Memory.{Memory}
 use Rattle.pp_closings_law.specs.Sides.{MayClose}
 use Rattle.pp_law.specs.Connections.{anew, is_client, is_conn, on_client, on_conn}
-use Rattle.pp_law.specs.Lists.{change, is_some_with}
-use Rattle.pp_law.specs.Replies.{regained, regained_by}
+use Rattle.pp_law.specs.Lists.{change}
+use Rattle.pp_law.specs.Replies.{is_regained, regained, regained_by}
 use Rattle.pp_law.specs.State.{State, Client, Course, Trying, OutOfTries, AskTooLong, RowRefused}
-use Rattle.pp_law.specs.Table.{is_next_held, next_of}
+use Rattle.pp_law.specs.Table.{next_of}
 use Rattle.pp_law.specs.Turn.{marked_client, marked_conn, touch}
 use Rattle.pp_seats.specs.Follows.{next_of as next_in}
 use Rattle.pp_seats.specs.declared.seat.Course.TheVariants.{Trying as TryingAnew}
 use Rattle.pp_seats.specs.declared.seat.Seat.{Seat}
 use Rattle.pp_seats_law.specs.Fates.{is_refused}
-use Rattle.pp_state.specs.Ends.{Parts, all_regained, is_held_next, on_seat, regained as regained_seat}
+use Rattle.pp_state.specs.Ends.{Parts, all_regained, is_regained as is_regained_seat, on_seat, regained as regained_seat}
 use Rattle.pp_steps_law.proofs.Kept.{GoesThrough}
 use Rattle.pp_steps_law.specs.Charges.{GoesOn}
 use Rattle.pp_steps_law.specs.Losses.{IsComing}
@@ -31,7 +31,7 @@ anew_given AskTooLong given = refl
 anew_given RowRefused given = given
 
 anew_through : (s : State) → GoesThrough (regained_by s)
-anew_through s = record { number = λ c. number_by c (is_some_with (is_next_held s) (next_of s c)); goes = λ c on. goes_by c (is_some_with (is_next_held s) (next_of s c)) on; comes = λ c on. comes_by c (is_some_with (is_next_held s) (next_of s c)) on }
+anew_through s = record { number = λ c. number_by c (is_regained s c); goes = λ c on. goes_by c (is_regained s c) on; comes = λ c on. comes_by c (is_regained s c) on }
   where
     number_by : (c : Client) (b : Bool) → (anew_if b c).number ≡ c.number
     number_by c true = refl
@@ -53,7 +53,7 @@ abbrev marked_if : Bool → ℕ → Client → Client
 marked_if b now c = elim b as (λ t. Client) [ true ↦ marked_client now c | false ↦ c ]
 
 abbrev holds : State → Client → Bool
-holds s c = is_some_with (is_next_held s) (next_of s c)
+holds s c = is_regained s c
 
 -- of one: it is marked by its number, which it keeps
 marks : (n : ℕ) (s : State) (c : Client) → marked_if (is_client n (anew_if (holds s c) c)) s.clock (anew_if (holds s c) c) ≡ anew_if (holds s c) (marked_if (is_client n c) s.clock c)
@@ -92,7 +92,7 @@ touch_anew n s = ap (λ (cs : List Client). record s { clients = cs; conns = cha
 -- ---- of the program
 
 regained_alike : (m : Memory) (seat : Seat) → IsAlike seat (regained_seat m seat)
-regained_alike m seat = by (is_held_next (next_in seat) m)
+regained_alike m seat = by (is_regained_seat m seat)
   where
     by : (b : Bool) → IsAlike seat (cond b (record seat { course = TryingAnew 0 }) seat)
     by true = record { id = refl; reply = refl; heard = refl; body_left = refl; front = refl; stage = refl; hung_up = refl; closing = refl; joins = λ id plain is. is }

@@ -20,6 +20,7 @@ use Rattle.pp_law.specs.Lists.{Bytes, has_text, is_some_with, without}
 use Rattle.pp_law.specs.Opening.{is_opening, is_same_phase, lose_in_opening}
 use Rattle.pp_law.specs.Phases.{behind, in_phase, is_done_with, next}
 use Rattle.pp_law.specs.Replies.{regained, regained_by}
+use Rattle.pp_law.specs.Stages.{passed_of}
 use Rattle.pp_law.specs.State.{State, Client, Entry, Instance as Known, Phase, IsWoken, IsConfigured, IsRooted, IsListed, IsListening, IsStuck, Evicting, Free, WriteTo, Todo, Do, no_agenda}
 use Rattle.pp_law.specs.Store.{close_name, is_at_rest, is_closed, is_idle_disk, lose_entry, note_gone, remove_entry, removing}
 use Rattle.pp_law.specs.Table.{extent_of, is_entry_of, is_kept_row_of, is_next_held, next_of as next_of_law, pins, Next}
@@ -290,11 +291,14 @@ module _ (number : ℕ → ℕ) (id : ℕ) (peers : List Peer) (p : Turn) (shelf
       again : Client
       again = record c { course = anew c.course }
 
-      last : (o : Next) (b : Bool) → is_next_held removed o ≡ b → (elim (is_next_held s o) as (λ t. Client) [ true ↦ again | false ↦ c ]) ≡ c → (elim b as (λ t. Client) [ true ↦ again | false ↦ c ]) ≡ c
-      last o true held before = sym (ap (λ (b : Bool). elim b as (λ t. Client) [ true ↦ again | false ↦ c ]) (held_before o held)) ∙ before
+      passes : Bool
+      passes = is_some (passed_of c)
+
+      last : (o : Next) (b : Bool) → is_next_held removed o ≡ b → (elim (is_next_held s o && not passes) as (λ t. Client) [ true ↦ again | false ↦ c ]) ≡ c → (elim (b && not passes) as (λ t. Client) [ true ↦ again | false ↦ c ]) ≡ c
+      last o true held before = sym (ap (λ (b : Bool). elim (b && not passes) as (λ t. Client) [ true ↦ again | false ↦ c ]) (held_before o held)) ∙ before
       last o false held before = refl
 
-      by : (o : Option Next) → (elim (is_some_with (is_next_held s) o) as (λ t. Client) [ true ↦ again | false ↦ c ]) ≡ c → (elim (is_some_with (is_next_held removed) o) as (λ t. Client) [ true ↦ again | false ↦ c ]) ≡ c
+      by : (o : Option Next) → (elim (is_some_with (is_next_held s) o && not passes) as (λ t. Client) [ true ↦ again | false ↦ c ]) ≡ c → (elim (is_some_with (is_next_held removed) o && not passes) as (λ t. Client) [ true ↦ again | false ↦ c ]) ≡ c
       by None before = refl
       by (Some o) before = last o (is_next_held removed o) refl before
 

@@ -10,11 +10,10 @@ use Rattle.pp_endings_law.specs.Gone.{IsAnswering}
 use Rattle.pp_law.specs.After.{event, owing}
 use Rattle.pp_law.specs.Asking.{asking, body_heard, left_to_ask}
 use Rattle.pp_law.specs.Connections.{conn, is_client, is_conn, is_for, is_outstanding, on_client, on_conn}
-use Rattle.pp_law.specs.Lists.{Bytes, is_some_with}
+use Rattle.pp_law.specs.Lists.{Bytes}
 use Rattle.pp_law.specs.Phases.{in_phase}
-use Rattle.pp_law.specs.Replies.{regained, regained_by}
+use Rattle.pp_law.specs.Replies.{is_regained, regained, regained_by}
 use Rattle.pp_law.specs.State.{State, Client, Conn, Exchange, Term, Awaiting, Handling, Free, WriteTo}
-use Rattle.pp_law.specs.Table.{is_next_held, next_of}
 use Rattle.pp_law.specs.Turn.{marked_client, marked_conn, touch}
 use Rattle.pp_obeys.proofs.Happenings.{goes_can_write, obeys_by}
 use Rattle.pp_obeys.proofs.Moving.{lead_joined}
@@ -81,8 +80,8 @@ unfolding kept_of
 kept_same k s g anew mark c = by (is_client k c)
   where
     by : (b : Bool) → g (regained_by s (elim b as (λ t. Client) [ true ↦ marked_client s.clock c | false ↦ c ])) ≡ g c
-    by true = anew (is_some_with (is_next_held s) (next_of s (marked_client s.clock c))) (marked_client s.clock c) ∙ mark c
-    by false = anew (is_some_with (is_next_held s) (next_of s c)) c
+    by true = anew (is_regained s (marked_client s.clock c)) (marked_client s.clock c) ∙ mark c
+    by false = anew (is_regained s c) c
 
 heard_same : (k : ℕ) (s : State) (e : Exchange) → body_heard (owed_write k s) e ≡ body_heard s e
 heard_same k s e =

@@ -3,7 +3,7 @@
 --
 -- Where the premises come from: `sound` of each state that a lawful log may go on as from (IsSoundTurn of pp_laws_turn). A client is read
 -- where it may send more and there is room for that (`is_read` of pp_due, at the wait); nobody is closing at a wait, no reply is over, and of
--- nobody all is answered (from wait to wait: `close_over` and `end_replies` leave it so; no source yet).
+-- nobody all is answered (`pp_comes_law`, its Settled).
 use Rattle.std.specs.Prelude.{◌≡◌, ◌<◌, ℕ, false, length, slice_get, vec_capacity, List, Some}
 use Rattle.pp_cache.specs.Bounds.{IsBounded}
 use Rattle.pp_client.specs.Requests.{room_of}

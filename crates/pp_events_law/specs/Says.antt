@@ -3,10 +3,10 @@
 --
 -- Where the premises come from: `sound` of each state that a lawful log may go on as from (IsSoundTurn of pp_laws_turn). A client is written
 -- to where it has something to say (`has_to_say` of pp_law, as `is_dry` of pp_due reads it at the wait), so that where its next byte is not
--- on the disk alone some of it is at hand; nobody is closing at a wait, no reply is over, and of nobody all is answered (from wait to wait:
--- `close_over` and `end_replies` leave it so; no source yet). No instance is longer than 1 GiB (`can_keep` of pp_valid, at its making), nor a
--- span (no source yet). Whether a reply that began closes is what its request and its head say (`Begun` of pp_laws_replies, of the client that
--- the seat shows); that nobody counts 2^64 requests has no source yet.
+-- on the disk alone some of it is at hand; nobody is closing at a wait, no reply is over, and of nobody all is answered (`pp_comes_law`, its
+-- Settled). No instance is longer than 1 GiB (`can_keep` of pp_valid, at its making), nor a span (`pp_laws_spans`). Whether a reply that began
+-- closes is what its request and its head say (`Begun` of pp_laws_replies, of the client that the seat shows); nobody counts 2^64 requests,
+-- where the log has fewer than 2^50 happenings (`pp_laws_sides`).
 use Rattle.std.specs.Prelude.{◌≡◌, ◌<◌, ◌≤◌, ℕ, true, false, length, slice_get, vec_capacity, Some, None}
 use Rattle.pp_cache.specs.Bounds.{IsBounded}
 use Rattle.pp_clients_obey.specs.Ending.{GoesOn}

@@ -39,7 +39,7 @@ pub record StandsOnDisk (shelf : KeptMap) (s : State) : Type 0 where
   pub shows : ShowsShelf shelf s
   pub names : list_any (λ e. is_closed s e.name) s.entries ≡ false
   pub alone : HasOneRow s
-  -- where another version comes the key is cleared, and its entry stale; no source yet
+  -- where another version comes the key is cleared, and its entry stale (`pp_laws_versions`)
   pub versions : HaveOneVersion s
   -- a run is sealed of whole chunks, chunks leave memory whole, and below the extent none joins (`join_run`); no source yet
   pub whole : AreWhole s

@@ -10,7 +10,7 @@ use Rattle.pp_law.specs.Lists.{has_number}
 use Rattle.pp_seats.specs.Follows.{next_of}
 use Rattle.pp_seats.specs.declared.seat.Course.TheVariants.{Trying}
 use Rattle.pp_seats.specs.declared.seat.Seat.{Seat}
-use Rattle.pp_state.specs.Ends.{all_regained, changed_at, is_held_next, numbers_of, regained}
+use Rattle.pp_state.specs.Ends.{all_regained, changed_at, is_regained, numbers_of, regained}
 use Rattle.pp_state.specs.Pins.{pin_of_seat}
 use Rattle.pp_state.specs.declared.state.State.{State as Turn}
 use Rattle.pp_turns_law.specs.Firsts.{IsAsleep}
@@ -41,14 +41,14 @@ module _ (m : Memory) where
   each_on P on (j ∷ js) seats all = each_on P on js (changed_at j (regained m) seats) (one_on P on j seats all)
 
   pub asleep_on : (p : Turn) (awake : List ℕ) (i : ℕ) (seat : Seat) → (has_number i awake ≡ false → IsAsleep p seat) → has_number i awake ≡ false → IsAsleep p (regained m seat)
-  asleep_on p awake i seat sleeps off = by (is_held_next (next_of seat) m) (sleeps off)
+  asleep_on p awake i seat sleeps off = by (is_regained m seat) (sleeps off)
     where
       by : (b : Bool) → IsAsleep p seat → IsAsleep p (anew_if b seat)
       by true one = record { silent = one.silent; ticked = one.ticked }
       by false one = one
 
   pub ready_on : (number : ℕ → ℕ) (k : Memory) (next : ℕ) (i : ℕ) (seat : Seat) → (seat.is_closing ≡ false → IsReady number k next seat) → (regained m seat).is_closing ≡ false → IsReady number k next (regained m seat)
-  ready_on number k next i seat ready = by (is_held_next (next_of seat) m)
+  ready_on number k next i seat ready = by (is_regained m seat)
     where
       by : (b : Bool) → (anew_if b seat).is_closing ≡ false → IsReady number k next (anew_if b seat)
       by true going = let one : IsReady number k next seat = ready going in record { follows = one.follows; key = one.key; joined = one.joined }
@@ -58,7 +58,7 @@ module _ (m : Memory) where
   IsNear seat = IfSome (next_of seat) (λ n. n.at / 4096 < 2 ^ 32)
 
   pub near_on : (i : ℕ) (seat : Seat) → IsNear seat → IsNear (regained m seat)
-  near_on i seat near = by (is_held_next (next_of seat) m)
+  near_on i seat near = by (is_regained m seat)
     where
       by : (b : Bool) → IsNear (anew_if b seat)
       by true = near
@@ -67,7 +67,7 @@ module _ (m : Memory) where
   -- ---- what is pinned
 
   pin_same : (seat : Seat) → pin_of_seat (regained m seat) ≡ pin_of_seat seat
-  pin_same seat = by (is_held_next (next_of seat) m)
+  pin_same seat = by (is_regained m seat)
     where
       by : (b : Bool) → pin_of_seat (anew_if b seat) ≡ pin_of_seat seat
       by true = refl

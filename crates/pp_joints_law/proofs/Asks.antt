@@ -16,7 +16,7 @@ Can f = AreAskable f.waiting × AreAskable f.placed
 
 -- ---- one is changed
 
-change_first : (n : ℕ) (g : Entry → Entry) (xs : List Entry) (x : Entry) → find (is_number n) xs ≡ Some x → IsAskable (g x) → AreAskable xs → AreAskable (changed n g xs)
+pub change_first : (n : ℕ) (g : Entry → Entry) (xs : List Entry) (x : Entry) → find (is_number n) xs ≡ Some x → IsAskable (g x) → AreAskable xs → AreAskable (changed n g xs)
 change_first n g [] x found one all = tt
 change_first n g (y ∷ ys) x found one all = by (is_number n y) found (λ later. change_first n g ys x later one all.1)
   where
@@ -27,7 +27,7 @@ change_first n g (y ∷ ys) x found one all = by (is_number n y) found (λ later
     by true is rest = (subst (λ (z : Entry). IsAskable (g z)) (sym (same is)) one, all.1)
     by false is rest = (all.0, rest is)
 
-found_any : (n : ℕ) (xs : List Entry) (x : Entry) → find (is_number n) xs ≡ Some x → list_any (is_number n) xs ≡ true
+pub found_any : (n : ℕ) (xs : List Entry) (x : Entry) → find (is_number n) xs ≡ Some x → list_any (is_number n) xs ≡ true
 found_any n [] x found = absurd (cc found)
 found_any n (y ∷ ys) x found = by (is_number n y) found (λ later. found_any n ys x later)
   where
@@ -35,7 +35,7 @@ found_any n (y ∷ ys) x found = by (is_number n y) found (λ later. found_any n
     by true is rest = refl
     by false is rest = rest is
 
-none_any : (n : ℕ) (xs : List Entry) → find (is_number n) xs ≡ None → list_any (is_number n) xs ≡ false
+pub none_any : (n : ℕ) (xs : List Entry) → find (is_number n) xs ≡ None → list_any (is_number n) xs ≡ false
 none_any n [] none = refl
 none_any n (y ∷ ys) none = by (is_number n y) none (λ later. none_any n ys later)
   where

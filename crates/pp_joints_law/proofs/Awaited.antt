@@ -3,7 +3,7 @@ use Rattle.std.proofs.Common.{◌≤◌, sym, subst, ◌∙◌, ℕ, List, [], �
 use Rattle.pp_closings_law.specs.Log.{AreLinked}
 use Rattle.pp_desk.specs.declared.desk.Desk.{Desk}
 use Rattle.pp_events_law.specs.Stands.{AreClients, AreOpen as AreOpenAt}
-use Rattle.pp_joints_law.proofs.MayClose.{closings_may}
+use Rattle.pp_rests_law.proofs.MayClose.{closings_may}
 use Rattle.pp_joints_law.specs.Awaiting.{RestedOnesAwait}
 use Rattle.pp_joints_law.specs.Carried.{IsCarried}
 use Rattle.pp_law.specs.State.{State}

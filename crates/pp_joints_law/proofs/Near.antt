@@ -12,11 +12,10 @@ use Rattle.pp_flow_law.proofs.Standing.{IsShown, is_shown}
 use Rattle.pp_flow_law.specs.Tables.{none_leaves}
 use Rattle.pp_joints_law.specs.Leaving.{MemoryMayBeLeft}
 use Rattle.pp_law.specs.Connections.{anew, is_exchange}
-use Rattle.pp_law.specs.Lists.{is_some_with}
-use Rattle.pp_law.specs.Replies.{regained, regained_by}
+use Rattle.pp_law.specs.Replies.{is_regained, regained, regained_by}
 use Rattle.pp_law.specs.Stages.{bound_of, filled_of}
 use Rattle.pp_law.specs.State.{State, Bound, Client, Exchange, Term}
-use Rattle.pp_law.specs.Table.{Next, is_instance, is_next_held, next_of as next_by_law}
+use Rattle.pp_law.specs.Table.{Next, is_instance, next_of as next_by_law}
 use Rattle.pp_laws.proofs.Lists.{in_find}
 use Rattle.pp_laws.specs.Runs.{IsIn}
 use Rattle.pp_laws_bounds.specs.Bounds.{HasFewBodies, HasFewClients}
@@ -55,7 +54,7 @@ in_mapped f x (y ∷ ys) (inr i) = inr (in_mapped f x ys i)
 
 next_anew : (s : State) (c : Client) → next_by_law (regained s) (regained_by s c) ≡ next_by_law s c
 unfolding regained
-next_anew s c = by (is_some_with (is_next_held s) (next_by_law s c))
+next_anew s c = by (is_regained s c)
   where
     by : (b : Bool) → next_by_law (record s { clients = map (regained_by s) s.clients }) (elim b as (λ t. Client) [ true ↦ record c { course = anew c.course } | false ↦ c ]) ≡ next_by_law s c
     by true = refl

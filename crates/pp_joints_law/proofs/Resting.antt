@@ -26,7 +26,7 @@ same_settings : (w : Wants) (s : State) → (rest_with w s).settings ≡ s.setti
 unfolding rest_with
 same_settings w s = refl
 
-module _ (number : ℕ → ℕ) (shelf : KeptMap) (before : List ℕ) (w : Wants) (clients : ℕ) (x : Moving) (e f : Desk) (s : State) (carried : IsCarried shelf x s) (awaits : Awaits before w clients x.desk e) (rests : Rests w clients e f) (rested : HasRested number x.desk f s (rest_with w s)) (room : 256 ≤ vec_capacity e.state.awake) where
+module _ (number : ℕ → ℕ) (shelf : KeptMap) (before : List ℕ) (w : Wants) (clients : ℕ) (x : Moving) (e f : Desk) (s : State) (carried : IsCarried shelf x s) (awaits : Awaits before w clients x.desk e) (rests : Rests w clients e f) (rested : HasRested number x.desk f s (rest_with w s)) where
   as_many_origins : length f.peers ≡ length x.desk.peers
   as_many_origins = sym (as_many f.peers) ∙ ap (λ (ns : List ℕ). length ns) rested.origins ∙ as_many x.desk.peers
 
@@ -51,7 +51,7 @@ module _ (number : ℕ → ℕ) (shelf : KeptMap) (before : List ℕ) (w : Wants
           file = ap (λ (d : Desk). length d.file.items) rests.rest ∙ ap (λ (d : Desk). length d.file.items) awaits.rest;
           ticked = ap (λ (d : Desk). d.state.has_ticked) rests.rest ∙ ap (λ (d : Desk). d.state.has_ticked) awaits.rest;
         })
-        (subst (λ (n : ℕ). 256 ≤ n) (sym (ap (λ (d : Desk). vec_capacity d.state.awake) rests.rest)) room) (same_settings w s) rested.has_ticked carried.set;
+        (subst (λ (n : ℕ). 257 ≤ n) (sym (ap (λ (d : Desk). vec_capacity d.state.awake) rests.rest ∙ awaits.room)) carried.set.room) (same_settings w s) rested.has_ticked carried.set;
     links = record {
       clients = subst (λ (ns : List ℕ). AreOpen ns x.links) (sym rested.clients) carried.links.clients;
       origins = subst (λ (ns : List ℕ). AreLinked ns x.links) (sym rested.origins) carried.links.origins;
@@ -65,4 +65,4 @@ module _ (number : ℕ → ℕ) (shelf : KeptMap) (before : List ℕ) (w : Wants
   }
 
 pub waits : WaitsCarry
-waits number shelf before w clients x e f s carried awaits rests rested room = carried_over number shelf before w clients x e f s carried awaits rests rested room
+waits number shelf before w clients x e f s carried awaits rests rested = carried_over number shelf before w clients x e f s carried awaits rests rested

@@ -66,7 +66,7 @@ pub record IsSetAlike (d e : Desk) : Type 0 where
   pub file : length e.file.items ≡ length d.file.items
   pub ticked : e.state.has_ticked ≡ d.state.has_ticked
 
-pub set_from : (d e : Desk) (s t : State) → IsSetAlike d e → 256 ≤ vec_capacity e.state.awake → t.settings ≡ s.settings → t.has_ticked ≡ s.has_ticked → StandsAsSet d s → StandsAsSet e t
+pub set_from : (d e : Desk) (s t : State) → IsSetAlike d e → 257 ≤ vec_capacity e.state.awake → t.settings ≡ s.settings → t.has_ticked ≡ s.has_ticked → StandsAsSet d s → StandsAsSet e t
 set_from d e s t same room settings ticked set = record {
   force = record {
     name = same.name ∙ set.force.name ∙ ap (λ (c : Settings). c.name) (sym settings);
@@ -95,4 +95,4 @@ pub record IsSameDesk (d e : Desk) : Type 0 where
 
 pub set_as : (d e : Desk) (s t : State) → IsSameDesk d e → t.settings ≡ s.settings → t.has_ticked ≡ s.has_ticked → StandsAsSet d s → StandsAsSet e t
 set_as d e s t same settings ticked set =
-    set_from d e s t (record { name = same.name; trigger = same.trigger; floor = same.floor; shares = same.shares; limits = same.limits; run = same.run; file = same.file; ticked = same.ticked }) (subst (λ (n : ℕ). 256 ≤ n) (sym same.room) set.room) settings ticked set
+    set_from d e s t (record { name = same.name; trigger = same.trigger; floor = same.floor; shares = same.shares; limits = same.limits; run = same.run; file = same.file; ticked = same.ticked }) (subst (λ (n : ℕ). 257 ≤ n) (sym same.room) set.room) settings ticked set

@@ -1,7 +1,8 @@
 -- Behind decisions and rounds what is carried stands.
-use Rattle.std.proofs.Common.{◌≡◌, sym, subst, ap, ◌∙◌, true, List, map}
+use Rattle.std.proofs.Common.{◌≡◌, sym, subst, ap, ◌∙◌, true, List, le_trans, map}
 use Rattle.std.specs.Prelude.{length}
 use Rattle.pp_desk.specs.declared.desk.Desk.{Desk}
+use Rattle.pp_joints_law.proofs.Roomier.{settles_room}
 use Rattle.pp_joints_law.proofs.Same.{set_from}
 use Rattle.pp_joints_law.proofs.Settled.{settles_work}
 use Rattle.pp_joints_law.proofs.Stale.{kept_as_before, open_as_before}
@@ -95,7 +96,7 @@ module _ (terms : List Term) (before : Log) (shelf : KeptMap) (x y : Moving) (lo
           file = ap (λ (d : Desk). length d.file.items) work;
           ticked = ap (λ (d : Desk). d.state.has_ticked) work;
         })
-        it.set.room ((parts_of at_end).settings_is ∙ on_disk.settings) (ap (λ (f : Frame). f.has_ticked) (ending-frame true it.then) ∙ on_clock.ticked) carried.set;
+        (le_trans carried.set.room (settles_room shelf x y log settles)) ((parts_of at_end).settings_is ∙ on_disk.settings) (ap (λ (f : Frame). f.has_ticked) (ending-frame true it.then) ∙ on_clock.ticked) carried.set;
     links = record { clients = it.set.seated; origins = it.set.linked; given = it.set.given; few = it.set.few; top = it.set.top };
     waiting = it.set.waiting;
     placed = it.set.placed;

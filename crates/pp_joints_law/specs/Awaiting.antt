@@ -7,7 +7,7 @@ use Rattle.std.specs.Prelude.{◌≡◌, ℕ, false, List, slice_get, Some, None
 use Rattle.pp_desk.specs.declared.desk.Desk.{Desk}
 use Rattle.pp_events_law.specs.Stands.{AreReadyAt, StandsAtEvent}
 use Rattle.pp_joints_law.specs.Carried.{IsCarried}
-use Rattle.pp_joints_law.specs.Closing.{NoneIsRefused}
+use Rattle.pp_rests_law.specs.Closing.{NoneIsRefused}
 use Rattle.pp_law.specs.State.{State, Term, Awaiting, Free}
 use Rattle.pp_obeys.specs.Obeys.{Obeys}
 use Rattle.pp_proxy.specs.Moving.{Moving, with_desk}

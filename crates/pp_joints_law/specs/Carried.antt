@@ -43,7 +43,8 @@ pub record StandsAsSet (d : Desk) (s : State) : Type 0 where
   -- from the opening on (Opening.`IsSet` of `pp_desk`, `openings_are_the_laws` of `pp_opening_law`)
   pub force : IsInForce d.state s
   pub few : run_len s ≤ 64
-  pub room : 256 ≤ vec_capacity d.state.awake
+  -- there are at most 256 clients: where all are looked at, one more can be noted (Opening.`HasRoom` of `pp_desk`)
+  pub room : 257 ≤ vec_capacity d.state.awake
   pub file : length d.file.items ≡ 286720
   -- from a tick to the next
   pub ticked : d.state.has_ticked ≡ s.has_ticked

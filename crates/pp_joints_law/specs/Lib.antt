@@ -1,9 +1,16 @@
 pub mod Awaiting
+pub mod Behind
+pub mod BehindEnds
+pub mod BehindLoads
+pub mod BehindLosses
+pub mod BehindReads
 pub mod Carried
-pub mod Closing
 pub mod Deciding
 pub mod Handled
 pub mod Keeping
 pub mod Leaving
+pub mod Loading
+pub mod Opened
 pub mod Serving
 pub mod Settling
+pub mod Unnoted

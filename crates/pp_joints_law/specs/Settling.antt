@@ -2,7 +2,7 @@
 --
 -- Where the premises come from: HasServed of `pp_rounds_law` is where decisions and rounds lead, before Stop, from where the turn stands behind
 -- the disk (Keeping.`HasBeenKept`); HasRested of `pp_waits_law` is what the wait leaves.
-use Rattle.std.specs.Prelude.{◌≡◌, ◌≤◌, ℕ, List, vec_capacity}
+use Rattle.std.specs.Prelude.{◌≡◌, ℕ, List}
 use Rattle.pp_desk.specs.declared.desk.Desk.{Desk}
 use Rattle.pp_joints_law.specs.Carried.{IsCarried}
 use Rattle.pp_law.specs.Phases.{ending}
@@ -28,7 +28,7 @@ SettlingsCarry = (terms : List Term) (before : Log) (shelf : KeptMap) (x y : Mov
 
 -- ---- the wait
 
--- that there is room still to look at 256 clients has no source yet: Awaits of `pp_proxy` says who is looked at, and not what is left of that room
+-- it leaves as much room to look at clients
 abbrev pub WaitsCarry : Type 0
 WaitsCarry = (number : ℕ → ℕ) (shelf : KeptMap) (before : List ℕ) (w : Wants) (clients : ℕ) (x : Moving) (e f : Desk) (s : State) → IsCarried shelf x s → Awaits before w clients x.desk e → Rests w clients e f → HasRested number x.desk f s (rest_with w s)
-    → 256 ≤ vec_capacity e.state.awake → IsCarried shelf (with_desk f x) (rest_with w s)
+    → IsCarried shelf (with_desk f x) (rest_with w s)

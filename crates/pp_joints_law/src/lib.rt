@@ -9,9 +9,18 @@
 //! carried stands behind. `specs/Keeping.antt`: then the disk may be worked on, and behind it the turn stands where decisions come next.
 //! `specs/Deciding.antt`: there decisions and rounds begin, or at Stop all is closed. `specs/Serving.antt`: where those end the turn may wait,
 //! and nothing that is set was changed. `specs/Settling.antt`: what is carried stands there, and behind the wait. `specs/Awaiting.antt`: behind
-//! the wait the turn stands where an event is awaited. `specs/Closing.antt`: closings may come in any state of a turn.
+//! the wait the turn stands where an event is awaited. `specs/Opened.antt`: a life begins as by the law, and at its first wait all of this
+//! stands.
 //!
-//! Not said: that what is carried stands behind an event.
+//! `specs/Behind.antt`: behind Stop, a client that comes, a connection that was reached, and the clock, what is carried stands, and what
+//! leaves memory may leave it. `specs/BehindReads.antt` has the same behind the read of a client and a write to one for which nothing is read
+//! back before, behind the write to an origin, and where its connection breaks; `specs/BehindEnds.antt` behind the read of an origin that
+//! brings nothing of a response. `specs/BehindLosses.antt` has it where a read or a write is owed, and behind a write before which a chunk
+//! could not be read back; `specs/BehindLoads.antt` where it was, and `specs/Loading.antt` some of what the read of a chunk rests on. Where
+//! attempts are lost rows are cleared in the program and in the law, each for itself: that they are the same follows from what both show
+//! before and behind. `specs/Unnoted.antt`: none that left memory is left to be noted from there to the next wait.
+//!
+//! Not said: that what is carried stands behind the read of an origin that brings bytes.
 //!
 //! To the layer above: each is the clause of a function that does nothing. It is one part of the proof that the program obeys the law.
 //!
@@ -19,19 +28,31 @@
 #![tactic(auto)]
 
 mod awaiting; // to an event
-mod closing; // closings may come
+mod behind; // what is carried stands behind events
 mod deciding; // behind the disk
 mod handling; // behind an event
 mod keeping; // before and behind the disk
 mod leaving; // what leaves memory
+mod loading; // before a chunk is read back
+mod noting; // what left memory
+mod opened; // a life begins
 mod serving; // to the wait
 mod settling; // and what is carried
 
 pub use awaiting::turns_await_behind_waits;
-pub use closing::closings_may_come;
+pub use behind::{
+    calls_of_clients_carry, calls_of_origins_carry, ends_of_origins_carry, loads_of_chunks_carry,
+    losses_of_chunks_carry, silent_events_carry, what_is_owed_carries,
+};
 pub use deciding::turns_decide_behind_keepings;
 pub use handling::memory_is_left_behind_events;
 pub use keeping::keepings_come_behind_what_leaves;
 pub use leaving::memory_may_be_left_behind_events;
+pub use loading::what_is_carried_may_be_read_back;
+pub use noting::what_left_memory_is_noted;
+pub use opened::{
+    first_turns_begin, lives_begin_as_by_the_law, lives_may_break_off, lives_wake_behind_crashes,
+    numbers_are_the_logs, openings_lead_to_listening,
+};
 pub use serving::{turns_may_wait_behind_rounds, what_is_set_stays_set};
 pub use settling::{settlings_carry, waits_carry};

@@ -1,5 +1,5 @@
 // Step 3: what stands no more is taken off the disk, and what is whole is kept there.
-ghost use Rattle.std.specs.Prelude.{◌≡◌, ◌≤◌, ◌||◌, length, option_map, true};
+ghost use Rattle.std.specs.Prelude.{◌≡◌, ◌≤◌, length, option_map, true};
 ghost use Rattle.pp_desk.specs.Anything.{anything};
 ghost use Rattle.pp_keeping.specs.Keeping.{goes_on, keeping, with_memory, with_outcome, GrownNext, KeepsAll, KeepsRun, Repeats, RepeatsOn, TakesNext};
 ghost use Rattle.pp_keeping.specs.Kept.{key_under, outside, unkept, unkept_of, with_room, TakesAway, TakesKey};
@@ -177,7 +177,7 @@ fn keep_rows<W: World>(desk: &mut Desk, links: &Links, shelf: &mut Shelf, world:
         }
         goes = keep_grown(desk, links, shelf, world);
     }
-    note_more(&mut desk.state, goes);
+    desk.state.note_more(goes);
 }
 
 /// The last of the instances that grew is forgotten, and kept as far as it is whole. False where there is none.
@@ -228,7 +228,7 @@ fn keep_runs<W: World>(
         }
         goes = keep_run(desk, links, shelf, world, id);
     }
-    note_more(&mut desk.state, goes);
+    desk.state.note_more(goes);
 }
 
 /// Keeps one run of an instance more. Whether another may follow.
@@ -252,13 +252,6 @@ fn keep_run<W: World>(
 {
     let outcome = keep_next(&desk.state, id, links, shelf, world, &mut desk.file);
     take_outcome(&mut desk.state, id, outcome)
-}
-
-/// This life goes astray where there is more.
-fn note_more(state: &mut State, goes: bool)
-    ensures { state.new ≡ record state.old { is_astray = state.old.is_astray || goes } }
-{
-    state.is_astray = state.is_astray || goes;
 }
 
 /// What memory knows of it then, and whether another run may follow.

@@ -1,6 +1,6 @@
 -- How a reply begins, goes on and ends, and the request behind it (RFC 2616, sections 6, 8.1.2.2, 8.2.3 and 13).
 use Rattle.std.specs.List.{list_any}
-use Rattle.std.specs.Prelude.{ℕ, zero, suc, ◌+◌, ◌-◌, ◌/◌, Bool, true, false, ◌==◌, ◌&&◌, ◌||◌, not, nat_lt, nat_le, List, [], length, drop, map, Option, Some, None}
+use Rattle.std.specs.Prelude.{ℕ, zero, suc, ◌+◌, ◌-◌, ◌/◌, Bool, true, false, ◌==◌, ◌&&◌, ◌||◌, not, nat_lt, nat_le, List, [], length, drop, map, is_some, Option, Some, None}
 use Rattle.pp_fresh.specs.Age.{age_of}
 use Rattle.pp_pass.specs.Pipe.{without_first}
 use Rattle.pp_plan.specs.Requests.{is_head}
@@ -200,9 +200,12 @@ end_replies s =
 
 -- ---- attempts
 
--- ours: they count anew once the next byte is held
+-- ours: they count anew once the next byte is held; not where a response is passed, which may be all that is left to it
+abbrev pub is_regained : State → Client → Bool
+is_regained s c = is_some_with (is_next_held s) (next_of s c) && not (is_some (passed_of c))
+
 abbrev pub regained_by : State → Client → Client
-regained_by s c = elim (is_some_with (is_next_held s) (next_of s c)) [ true ↦ record c { course = anew c.course } | false ↦ c ]
+regained_by s c = elim (is_regained s c) [ true ↦ record c { course = anew c.course } | false ↦ c ]
 
 unfoldable pub regained : State → State
 regained s = record s { clients = map (regained_by s) s.clients }

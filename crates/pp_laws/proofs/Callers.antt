@@ -7,13 +7,13 @@ use Rattle.pp_world.specs.declared.note.Decision.TheVariants.{Refuse, Hit, Part,
 use Rattle.pp_world.specs.declared.note.Decision.{Decision}
 use Rattle.pp_law.specs.Deciding.{refused_with, asking_with, stage_for, reply_by, answering_with}
 use Rattle.pp_law.specs.Hearing.{what_counts, fronted, with_front, heard_by}
-use Rattle.pp_law.specs.Lists.{Bytes, is_some_with}
+use Rattle.pp_law.specs.Lists.{Bytes}
 use Rattle.pp_law.specs.Connections.{anew}
-use Rattle.pp_law.specs.Replies.{passed_reply, begun_passed, may_begin, begun_reply, begun_instance, begun_decided, begun_by, begun_at_end, said_of_body, said_of, said_by, next_request, regained_by}
+use Rattle.pp_law.specs.Replies.{passed_reply, begun_passed, may_begin, begun_reply, begun_instance, begun_decided, begun_by, begun_at_end, said_of_body, said_of, said_by, next_request, is_regained, regained_by}
 use Rattle.pp_law.specs.Requests.{Front, Parsed, NoHeadYet, NoHead, IsRequest, key_in, keeps_open}
 use Rattle.pp_law.specs.Stages.{is_passing, on_passed, passed_of, reply_of}
 use Rattle.pp_law.specs.State.{State, Client, Passed, Passes, Stage, Undecided, Waiting, Passing, Answering, Reply, Instance}
-use Rattle.pp_law.specs.Table.{source_of, is_next_held, next_of}
+use Rattle.pp_law.specs.Table.{source_of}
 use Rattle.pp_laws.proofs.KeptClients.{SameClient, client_same}
 use Rattle.pp_laws.proofs.Sound.{passes_in, source_in}
 
@@ -206,4 +206,4 @@ regained-by c true = same_parts _ c refl refl refl
 regained-by c false = client_same c
 
 pub regained_by-same : (s : State) (c : Client) → SameClient (regained_by s c) c
-regained_by-same s c = regained-by c (is_some_with (is_next_held s) (next_of s c))
+regained_by-same s c = regained-by c (is_regained s c)

@@ -4,10 +4,9 @@ use Rattle.pp_text.specs.Bytes.{is_empty}
 use Rattle.pp_law.specs.Closing.{forsake, is_of, left_alone}
 use Rattle.pp_law.specs.Connections.{anew, is_client, on_client}
 use Rattle.pp_law.specs.Lists.{change, is_some_with, is_this}
-use Rattle.pp_law.specs.Replies.{close_finished, end_replies, end_reply, end_said, has_no_more, is_finished, is_said, next_request, regained, regained_by}
+use Rattle.pp_law.specs.Replies.{close_finished, end_replies, end_reply, end_said, has_no_more, is_finished, is_said, next_request, is_regained, regained, regained_by}
 use Rattle.pp_law.specs.Stages.{is_headed}
 use Rattle.pp_law.specs.State.{State, Client, Exchange, Reply, Stage, Undecided, Waiting, Passing, Answering}
-use Rattle.pp_law.specs.Table.{is_next_held, next_of}
 use Rattle.pp_laws.specs.Runs.{IsIn}
 use Rattle.pp_laws.proofs.Tests.{first_holds, same_number}
 use Rattle.pp_laws_turn.proofs.Cases.{when, when_so}
@@ -68,7 +67,7 @@ end_replies-comes s h = each_client-comes close_finished (λ c t i ht. close_fin
 
 pub regained-comes : {late : Bool} → (s : State) → Holds (Coming late) s → Holds (Coming late) (regained s)
 unfolding regained
-regained-comes s h = all_clients-comes (regained_by s) s (λ c. by c (is_some_with (is_next_held s) (next_of s c))) h
+regained-comes s h = all_clients-comes (regained_by s) s (λ c. by c (is_regained s c)) h
   where
     by : (c : Client) (held : Bool) → Goes (elim held as (λ y. Client) [ true ↦ record c { course = anew c.course } | false ↦ c ]) c
     by c true = goes_as _ c refl refl refl refl refl

@@ -54,7 +54,7 @@ module _ (instances : List Instance) (next : ℕ) where
 
   relayed_fits : (c : Client) → FitsIn instances next (answering_with (reply_by Relay None) c)
   relayed_fits c = as_stage instances next c (reply_by Relay None) (record {
-    chosen = λ off. to_pass refl refl;
+    chosen = λ off. to_pass refl refl refl refl;
     given = λ id is. absurd (cc is);
     within = λ id x is. absurd (cc is);
   })

@@ -14,9 +14,9 @@ use Rattle.pp_laws_replies.proofs.Quiet.{FactsOf, FromClient, FromRow, Quietly, 
 
 -- ---- a reply
 
--- one that has not begun is passed, or shows the span of its decision, of the version that it is read from
+-- one that has not begun is passed, or is read from a version; either shows the span of its decision
 pub data Choice (instances : List Instance) (next : ℕ) (f : Front) (r : Reply) : Type 0 where
-  to_pass : is_passing r.decision ≡ true → r.source ≡ None → Choice instances next f r
+  to_pass : is_passing r.decision ≡ true → r.source ≡ None → r.at ≡ (span_of r.decision).0 → r.to ≡ (span_of r.decision).1 → Choice instances next f r
   to_show : (q : Parsed) → f ≡ IsRequest q → is_by_row r.decision ≡ true → (v : Version) → SpanOf q.head v r.decision → r.at ≡ (span_of r.decision).0 → r.to ≡ (span_of r.decision).1
       → (id : ℕ) → r.source ≡ Some id → id < next → ((x : Instance) → IsIn x instances → x.id ≡ id → x.version ≡ v) → Choice instances next f r
 
@@ -48,7 +48,7 @@ same_end rows next x id to lt ends is (old_row y i alike version) = subst (λ (v
 same_end rows next x id to lt ends is (new_row le) = let eq : x.id ≡ id = is in absurd (omega arith)
 
 choice_on : (rows : List Instance) (next : ℕ) (instances : List Instance) (next2 : ℕ) (f : Front) (r : Reply) → ((x : Instance) → IsIn x instances → FromRow rows next x) → next ≤ next2 → Choice rows next f r → Choice instances next2 f r
-choice_on rows next instances next2 f r from le (to_pass is none) = to_pass is none
+choice_on rows next instances next2 f r from le (to_pass is none at to) = to_pass is none at to
 choice_on rows next instances next2 f r from le (to_show q front by v span at to id source lt versions) =
     to_show q front by v span at to id source (lt_of_lt_of_le lt le) (λ x i is. same_version rows next x id v lt versions is (from x i))
 
@@ -66,7 +66,7 @@ refronted : (instances : List Instance) (next : ℕ) (f g : Front) (r : Reply) �
 refronted instances next f g r front h = record { chosen = λ off. by (h.chosen off); given = h.given; within = h.within }
   where
     by : Choice instances next f r → Choice instances next g r
-    by (to_pass is none) = to_pass is none
+    by (to_pass is none at to) = to_pass is none at to
     by (to_show q asks by_row v span at to id source lt versions) = to_show q (front q asks) by_row v span at to id source lt versions
 
 pub same_fits : (instances : List Instance) (next : ℕ) (d c : Client) → ((q : Parsed) → c.front ≡ IsRequest q → d.front ≡ IsRequest q) → d.stage ≡ c.stage → FitsIn instances next c → FitsIn instances next d

@@ -186,9 +186,10 @@ rows_pass Fetch is = refl
 rows_pass Pass is = absurd (cc is)
 
 chosen_of : (s : State) (c : Client) (r : Reply) → Choice s.instances s.next_instance c.front r → IsChosen s c r
-chosen_of s c r (to_pass is none) = record { passes = λ passing. none; shows = λ isnt. let both : true ≡ false = sym is ∙ isnt in absurd (cc both) }
+chosen_of s c r (to_pass is none at to) = record { passes = λ passing. none; span = λ passing. (at, to); shows = λ isnt. let both : true ≡ false = sym is ∙ isnt in absurd (cc both) }
 chosen_of s c r (to_show q asks by v span at to id source lt versions) = record {
   passes = λ passing. let both : true ≡ false = sym passing ∙ rows_pass r.decision by in absurd (cc both);
+  span = λ passing. let both : true ≡ false = sym passing ∙ rows_pass r.decision by in absurd (cc both);
   shows = λ isnt. record {
     request = q;
     front = asks;

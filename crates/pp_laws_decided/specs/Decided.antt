@@ -31,9 +31,10 @@ pub record IsReadFrom (s : State) (c : Client) (r : Reply) : Type 0 where
   pub is : r.source ≡ Some source
   pub span : (x : Instance) → instance s source ≡ Some x → IsSpanOf r request x
 
--- or it is passed, and follows nothing
+-- or it is passed, follows nothing, and shows no bytes of a row
 pub record IsChosen (s : State) (c : Client) (r : Reply) : Type 0 where
   pub passes : is_passing r.decision ≡ true → r.source ≡ None
+  pub span : is_passing r.decision ≡ true → (r.at ≡ (span_of r.decision).0) × (r.to ≡ (span_of r.decision).1)
   pub shows : is_passing r.decision ≡ false → IsReadFrom s c r
 
 -- ---- all

@@ -1,4 +1,4 @@
--- The law: what a turn leaves, where what is said of exchanges holds.
+-- The law: what a turn leaves, where what waits for a body is somebody's.
 use Rattle.std.proofs.Common.{◌≡◌, refl, ℕ, true, false, is_some, Option, Some, None}
 use Rattle.pp_law.specs.Asking.{has_room}
 use Rattle.pp_law.specs.Connections.{is_for}
@@ -9,17 +9,20 @@ use Rattle.pp_law.specs.State.{Client, DecidingAgain, Exchange}
 use Rattle.pp_laws.specs.Runs.{IsIn}
 use Rattle.pp_laws_left.specs.Left.{LeftIsLeft}
 use Rattle.pp_laws_left.proofs.Laws.{ends_are_left}
+use Rattle.pp_laws_left.proofs.OwnedEnds.{ends_are_owned}
 use Rattle.pp_laws_left.proofs.Passes.{ends_are_to_pass}
+use Rattle.pp_laws_left.proofs.ReadySteps.{ends_are_filled}
 use Rattle.pp_laws_left.proofs.Senders.{senders_are_there}
 use Rattle.pp_laws_left.proofs.SpokenLaws.{ends_are_spoken}
 
 pub left_is_left : LeftIsLeft
 left_is_left terms s log ends asks =
     let spoken = ends_are_spoken terms s log ends in
+    let owned = ends_are_owned terms s log ends in
     record {
-      filled = asks.filled;
-      asked = asks.asked;
-      amid = asks.amid;
+      filled = ends_are_filled terms s log ends;
+      asked = owned.asked;
+      amid = owned.amid;
       replies = spoken.replies;
       unsaid = spoken.unsaid;
       heads = (ends_are_left terms s log ends.obeys).heads;

@@ -6,12 +6,12 @@ use Rattle.pp_law.specs.Deciding.{is_for_memory, mark_row_of, enter_row}
 use Rattle.pp_law.specs.Offers.{has_to_say}
 use Rattle.pp_law.specs.Opening.{is_at}
 use Rattle.pp_law.specs.Phases.{phases, in_phase, behind, next, is_done, come, come_to, decides, come_to_decide, deciding}
-use Rattle.pp_law.specs.Replies.{use_chunks, use_from, use_said, of_body, is_finished, close_finished, regained_by, regained}
+use Rattle.pp_law.specs.Replies.{use_chunks, use_from, use_said, of_body, is_finished, close_finished, is_regained, regained_by, regained}
 use Rattle.pp_law.specs.Requests.{key_in}
 use Rattle.pp_law.specs.State.{State, Phase, Before, IsWoken, IsConfigured, IsRooted, IsListed, IsListening, IsStuck, Awaiting, Handling, Evicting, Keeping, Deciding, Following, Connecting, DecidingAgain, Client, Conn}
-use Rattle.pp_law.specs.Table.{Next, is_next_held, next_of, row}
+use Rattle.pp_law.specs.Table.{Next, next_of, row}
 use Rattle.pp_law.specs.Turn.{waits_for_exchange, marked_client, marked_conn, touch, is_leap, marks_anew, is_idle_conn, owes_answer, end_patience, close_idle_conn, woken_client, renew_marks, tick_to, tick}
-use Rattle.pp_law.specs.Lists.{Bytes, is_some_with}
+use Rattle.pp_law.specs.Lists.{Bytes}
 use Rattle.pp_law.specs.Unseen.{is_unseen, drop_on, drop_unseen}
 use Rattle.pp_target.specs.Key.{text_of}
 use Rattle.pp_world.specs.declared.note.Decision.{Decision}
@@ -24,7 +24,7 @@ drop_on-keeps : {exact : Bool} {o : State} (k : Conn) (s : State) → Keeps exac
 unfolding drop_on
 drop_on-keeps k s h = each_of (front_of_line s k) h (λ e. when (is_unseen s k e) (close_conn-keeps false k _ (end_exchange-keeps e.number s h)) h)
 
-drop_unseen-keeps : {exact : Bool} {o : State} (s : State) → Keeps exact o s → Keeps exact o (drop_unseen s)
+pub drop_unseen-keeps : {exact : Bool} {o : State} (s : State) → Keeps exact o s → Keeps exact o (drop_unseen s)
 unfolding drop_unseen
 drop_unseen-keeps s h = each_conn-keeps drop_on drop_on-keeps _ s h
 
@@ -116,7 +116,7 @@ regained-by c false = kept_same c
 
 pub regained-keeps : {exact : Bool} {o : State} (s : State) → Keeps exact o s → Keeps exact o (regained s)
 unfolding regained
-regained-keeps {exact} {o} s h = keeps (clients_mapped o s (regained_by s) (λ c. regained-by c (is_some_with (is_next_held s) (next_of s c))) (facts_of h))
+regained-keeps {exact} {o} s h = keeps (clients_mapped o s (regained_by s) (λ c. regained-by c (is_regained s c)) (facts_of h))
 
 use_chunks-keeps : {exact : Bool} {o : State} (more id i : ℕ) (s : State) → Keeps exact o s → Keeps exact o (use_chunks more id i s)
 unfolding use_chunks

@@ -35,7 +35,7 @@ abbrev StaysAs : Client → Client → Type 0
 StaysAs c d = is_begun d ≡ false → d ≡ c
 
 -- who has not begun behind it is as it was
-unbegun_same : (t : State) (c : Client) → is_begun (begun_at_end t c) ≡ false → begun_at_end t c ≡ c
+pub unbegun_same : (t : State) (c : Client) → is_begun (begun_at_end t c) ≡ false → begun_at_end t c ≡ c
 unbegun_same t c = by c.is_closing c.front
   where
     same : StaysAs c c

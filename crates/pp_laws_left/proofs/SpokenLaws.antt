@@ -56,19 +56,19 @@ unhampered : (made : Option ℕ) (t : Bool) → (elim made as (λ x. Bool) [ Som
 unhampered (Some who) t is = absurd (cc is)
 unhampered None t is = is
 
-can_read : (s : State) (n : ℕ) → IsPermitted s (CanRead n) → s.phase ≡ Awaiting
+pub can_read : (s : State) (n : ℕ) → IsPermitted s (CanRead n) → s.phase ≡ Awaiting
 unfolding is_permitted permits
 can_read s n is = sym (same_phase Awaiting s.phase (unhampered s.made_room_for (is_awaiting s) is))
 
-can_write : (s : State) (n : ℕ) → IsPermitted s (CanWrite n) → s.phase ≡ Awaiting
+pub can_write : (s : State) (n : ℕ) → IsPermitted s (CanWrite n) → s.phase ≡ Awaiting
 unfolding is_permitted permits
 can_write s n is = sym (same_phase Awaiting s.phase (unhampered s.made_room_for (is_awaiting s) is))
 
-opens : (s : State) (n : ℕ) → IsPermitted s (Opened n) → s.phase ≡ Awaiting
+pub opens : (s : State) (n : ℕ) → IsPermitted s (Opened n) → s.phase ≡ Awaiting
 unfolding is_permitted permits
 opens s n is = sym (same_phase Awaiting s.phase (first_holds (is_awaiting s) (may_open s n) (unhampered s.made_room_for _ is)))
 
-owed_event : (s : State) (n : ℕ) → is_owed s n ≡ true → AtEvent s.phase s.owed
+pub owed_event : (s : State) (n : ℕ) → is_owed s n ≡ true → AtEvent s.phase s.owed
 owed_event s n is = owes (by s.owed is)
   where
     by : (owed : Owed) → is_owed (record s { owed = owed }) n ≡ true → is_free owed ≡ false
@@ -77,7 +77,7 @@ owed_event s n is = owes (by s.owed is)
     by (WriteTo m) at = refl
 
 -- what is decided is decided where nothing is owed
-free_to_decide : (terms : List Term) (s : State) (log : Log) → Obeys terms s log → decides (come_to_decide s) ≡ true → is_free (come_to_decide s).owed ≡ true
+pub free_to_decide : (terms : List Term) (s : State) (log : Log) → Obeys terms s log → decides (come_to_decide s) ≡ true → is_free (come_to_decide s).owed ≡ true
 unfolding come_to_decide
 free_to_decide terms s log obeys on = by (is_free (come_to_decide s).owed) refl
   where
@@ -132,7 +132,7 @@ configured_none (Some text) s none = by (settings_in (reading_of s.term.words (S
 
 -- ---- where a turn ends
 
-waits_by : (s : State) (w : Wants) → IsPermitted s (Waits w) → may_wait s ≡ true
+pub waits_by : (s : State) (w : Wants) → IsPermitted s (Waits w) → may_wait s ≡ true
 unfolding is_permitted permits
 waits_by s w is = by (may_wait s) (unhampered s.made_room_for (permits_waits s w) is)
   where
@@ -140,10 +140,10 @@ waits_by s w is = by (may_wait s) (unhampered s.made_room_for (permits_waits s w
     by true at = refl
     by false at = absurd (cc at)
 
-none_there : {s t : State} → Keeps true s t → s.clients ≡ [] → t.clients ≡ []
+pub none_there : {s t : State} → Keeps true s t → s.clients ≡ [] → t.clients ≡ []
 none_there q none = none_in client_number _ _ (keeps_of q).numbers none
 
-fresh_to_wait : (terms : List Term) (s : State) (log : Log) (w : Wants) → Obeys terms s log → IsPermitted s (Waits w) → Spoken true s → (c : Client) → IsIn c (come_to DecidingAgain s).clients → IsFresh c
+pub fresh_to_wait : (terms : List Term) (s : State) (log : Log) (w : Wants) → Obeys terms s log → IsPermitted s (Waits w) → Spoken true s → (c : Client) → IsIn c (come_to DecidingAgain s).clients → IsFresh c
 fresh_to_wait terms s log w obeys is h c i = by (is_at IsListening s) refl (waits_by s w is)
   where
     by : (b : Bool) → is_at IsListening s ≡ b → (b || (not s.is_stopped && may_end s)) ≡ true → IsFresh c

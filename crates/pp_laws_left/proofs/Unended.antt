@@ -65,7 +65,7 @@ in_seen s t same h = as_in s t (phase_seen s t same) h
 worked : (s x : State) → Stays false (frame false s) x → IsBefore s → IsBefore (paid x)
 worked s x same h = as_in s (paid x) (paid_phase x ∙ phase_kept s x same) h
 
-handled : (s : State) → (event s).phase ≡ Handling
+pub handled : (s : State) → (event s).phase ≡ Handling
 unfolding event regained
 handled s = refl
 
@@ -114,7 +114,7 @@ configured_before (Some text) s = set_before (settings_in (reading_of s.term.wor
 
 -- ---- the disk
 
-begun_in : (op : DiskOp) (s : State) → permits_began s op ≡ true → is_opening s ≡ false → (come_to Keeping s).phase ≡ Keeping
+pub begun_in : (op : DiskOp) (s : State) → permits_began s op ≡ true → is_opening s ≡ false → (come_to Keeping s).phase ≡ Keeping
 begun_in op s may turns = by (is_at IsListed s) refl may
   where
     by : (b : Bool) → is_at IsListed s ≡ b → ((b && may_begin_in_opening op s) || may_in Keeping (may_begin_in_turn op) s) ≡ true → (come_to Keeping s).phase ≡ Keeping
@@ -135,7 +135,7 @@ unread_before name s h =
     let t : State = lose_in_opening name (close_name name s) in
     as_in s (paid t) (paid_phase t ∙ phase_seen s t (lost_seen name (close_name name s) ∙ closed_seen name s)) h
 
-loaded_phase : (key : Bytes) (i : ℕ) (s : State) → (load key i s).phase ≡ s.phase
+pub loaded_phase : (key : Bytes) (i : ℕ) (s : State) → (load key i s).phase ≡ s.phase
 unfolding load load_from note_use
 loaded_phase key i s = by (row s key) (kept_row s key)
   where
@@ -151,17 +151,17 @@ no_other None None how is another = cc is
 no_other None (Some x) how is another = let both : Some (BeforeDecision x) ≡ Some ForAnother = is ∙ ap (λ (l : Leaving). Some l) another in cc both
 no_other (Some x) decided how is another = let both : Some (ForMemory x) ≡ Some ForAnother = is ∙ ap (λ (l : Leaving). Some l) another in cc both
 
-another_first : (first none : Bool) (r decided : Option Instance) → leaving_with first none r decided ≡ Some ForAnother → first ≡ true
+pub another_first : (first none : Bool) (r decided : Option Instance) → leaving_with first none r decided ≡ Some ForAnother → first ≡ true
 another_first true none r decided is = refl
 another_first false none r decided is = absurd (no_other (elim none as (λ c. Option Instance) [ true ↦ if_so (λ x. x.is_new) r | false ↦ None ]) decided ForAnother is refl)
 
-memory_none : (first none : Bool) (r decided : Option Instance) (x : Instance) → leaving_with first none r decided ≡ Some (ForMemory x) → none ≡ true
+pub memory_none : (first none : Bool) (r decided : Option Instance) (x : Instance) → leaving_with first none r decided ≡ Some (ForMemory x) → none ≡ true
 memory_none true none r decided x is = absurd (cc is)
 memory_none false true r decided x is = refl
 memory_none false false r None x is = absurd (cc is)
 memory_none false false r (Some y) x is = absurd (cc is)
 
-decision_some : (first none : Bool) (r decided : Option Instance) (x : Instance) → leaving_with first none r decided ≡ Some (BeforeDecision x) → decided ≡ None → ⊥
+pub decision_some : (first none : Bool) (r decided : Option Instance) (x : Instance) → leaving_with first none r decided ≡ Some (BeforeDecision x) → decided ≡ None → ⊥
 decision_some true none r decided x is nobody = cc is
 decision_some false none r decided x is nobody = by (elim none as (λ c. Option Instance) [ true ↦ if_so (λ y. y.is_new) r | false ↦ None ]) decided is nobody
   where
@@ -171,12 +171,12 @@ decision_some false none r decided x is nobody = by (elim none as (λ c. Option 
     by None (Some y) one none = cc none
 
 -- who it leaves for is known
-is_for : (t : State) (due : Option Due) → forgets_next t due ≡ true → decides_for due ≡ None → ⊥
+pub is_for : (t : State) (due : Option Due) → forgets_next t due ≡ true → decides_for due ≡ None → ⊥
 is_for t None is none = cc is
 is_for t (Some (Decide n i d)) is none = cc none
 is_for t (Some (CutOff n cause)) is none = cc is
 
-makes_some : (s : State) (key : Bytes) → (before_decision s key ≡ None → ⊥) → decides_for (first_due (come_to_decide s)) ≡ None → ⊥
+pub makes_some : (s : State) (key : Bytes) → (before_decision s key ≡ None → ⊥) → decides_for (first_due (come_to_decide s)) ≡ None → ⊥
 makes_some s key some nobody = some (by (decides t) (forgets_next t (first_due t)) refl)
   where
     t : State

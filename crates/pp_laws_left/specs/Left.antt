@@ -2,17 +2,16 @@
 use Rattle.std.specs.Prelude.{◌≡◌, ◌⊎◌, ℕ, ◌≤◌, nat_lt, true, false, List, is_some, Some}
 use Rattle.pp_world.specs.Log.{Log}
 use Rattle.pp_law.specs.Asking.{has_room}
-use Rattle.pp_law.specs.Connections.{is_for, is_trying}
+use Rattle.pp_law.specs.Connections.{is_for}
 use Rattle.pp_law.specs.Phases.{come_to}
 use Rattle.pp_law.specs.Replies.{begin_replies, is_said}
 use Rattle.pp_law.specs.Requests.{NoHead}
 use Rattle.pp_law.specs.Stages.{is_begun, is_followed_by, is_passing, is_undecided, passed_of}
-use Rattle.pp_law.specs.State.{State, DecidingAgain, Term, Client, Exchange, Passed, Reply, Answering}
+use Rattle.pp_law.specs.State.{State, DecidingAgain, Term, Client, Exchange, Reply, Answering}
 use Rattle.pp_law.specs.Served.{waits_for_body}
-use Rattle.pp_law.specs.Table.{Next, is_provided, next_of}
 use Rattle.pp_laws.specs.Runs.{IsIn}
 use Rattle.pp_laws_ends.specs.Ends.{AreToPass}
-use Rattle.pp_laws_served.specs.Served.{HasExchange, IsLeft, IsReply, MayEnd, is_by_row, is_unanswered}
+use Rattle.pp_laws_served.specs.Served.{IsLeft, IsReply, MayEnd, is_by_row}
 use Rattle.pp_obeys.specs.Obeys.{Obeys}
 
 -- a reply that was decided: what `IsReply` of `pp_laws_served` has, but that one that is passed has its response
@@ -82,14 +81,8 @@ SendersAreThere = (terms : List Term) (s : State) (log : Log) → MayEnd terms s
 
 -- ---- all that is left
 
--- what is said of exchanges
+-- what is said of exchanges, but for what `EndsAreOwned` and `EndsAreFilled` have
 pub record IsLeftOfAsks (t : State) : Type 0 where
-  -- `ends_are_ready` of `pp_laws_served` has it (`IsReady`)
-  pub filled : (c : Client) (n : Next) → IsIn c t.clients → next_of t c ≡ Some n → is_trying c.course ≡ true → n.source.is_retired ≡ false → is_provided t n ≡ true
-  -- no source yet: an exchange is over only where its request was told of it, may be asked no more, or left it
-  pub asked : (c : Client) → IsIn c t.clients → is_unanswered c ≡ true → is_trying c.course ≡ true → HasExchange t c
-  -- no source: the law has it not, where attempts count anew behind a response that turned out bad within the read that brought its head
-  pub amid : (c : Client) (r : Reply) (p : Passed) → IsIn c t.clients → c.stage ≡ Answering r → is_passing r.decision ≡ true → passed_of c ≡ Some p → p.is_short ≡ false → p.pipe.is_finished ≡ false → is_trying c.course ≡ true → HasExchange t c
   -- no source yet: what is nobody's is dropped before it waits for a body, as followers ask (`drop_unseen`)
   pub owned : (e : Exchange) → IsIn e (begin_replies t).exchanges → is_some e.place ≡ true → waits_for_body (begin_replies t) e ≡ true → is_some e.asker ≡ true
 

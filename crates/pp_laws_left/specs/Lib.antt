@@ -1,2 +1,5 @@
 pub mod Left
+pub mod Owned
+pub mod Filled
 pub mod Unended
+pub mod Bodies

@@ -1,5 +1,8 @@
 // What a turn leaves of replies, of what is said and passed, and of places where no head is.
+ghost use Rattle.pp_laws_left.specs.Bodies.{BeginningsKeepBodies, BodiesArePassed, LeftIsWhole, PlacesKeepBodies, UnseenBodiesGo};
+ghost use Rattle.pp_laws_left.specs.Filled.{EndsAreFilled, FollowedAreWithin, LateAreReady};
 ghost use Rattle.pp_laws_left.specs.Left.{EndsAreLeft, EndsAreSpoken, EndsAreToPass, LeftIsLeft, SendersAreThere, TurnsAreLeft, TurnsAreSpoken};
+ghost use Rattle.pp_laws_left.specs.Owned.{EndsAreOwned, TurnsAreOwned};
 ghost use Rattle.pp_laws_left.specs.Unended.{HappeningsEndNoTurn, TurnsMayEnd};
 
 /// No reply goes on behind its end, one that is passed has no bytes of a row, and any other has its row; and a place where no head is
@@ -30,7 +33,7 @@ pub fn senders_are_there()
     ensures there { SendersAreThere }
 {}
 
-/// So of what a turn leaves nothing is to be shown any more but what is said of exchanges.
+/// So of what a turn leaves nothing is to be shown any more but that what waits for a body is somebody's.
 pub fn left_is_left()
     ensures left { LeftIsLeft }
 {}
@@ -40,4 +43,33 @@ pub fn left_is_left()
 pub fn happenings_end_no_turn()
     ensures early { HappeningsEndNoTurn }
     ensures may { TurnsMayEnd }
+{}
+
+/// As long as a client goes on, and goes on trying, it has its exchange where that told it nothing, or where more is passed to it; and so
+/// it is of everybody where a turn may end.
+pub fn turns_are_owned()
+    ensures owned { TurnsAreOwned }
+    ensures ends { EndsAreOwned }
+{}
+
+/// Where followers ask, what each follows ends within the body; behind that phase, until the turn may end, what they ask for stays ready;
+/// so where it may end, the next byte of each that goes on trying, of a row that stands, is there or comes.
+pub fn ends_are_filled()
+    ensures within { FollowedAreWithin }
+    ensures late { LateAreReady }
+    ensures ends { EndsAreFilled }
+{}
+
+/// An exchange has more of a body to ask only where its request is passed, and no place, dial, drop or reply that begins leaves one; so
+/// where a turn may end, nothing is to be shown but that before replies begin each that has a place is somebody's.
+pub fn bodies_are_owned()
+    ensures passed { BodiesArePassed }
+    ensures places { PlacesKeepBodies }
+    ensures begins { BeginningsKeepBodies }
+    ensures left { LeftIsWhole }
+{}
+
+/// Where what nobody sees is dropped, what is passed for nobody, and has more of a body to ask, goes with its connection.
+pub fn unseen_bodies_go()
+    ensures go { UnseenBodiesGo }
 {}

@@ -2,8 +2,9 @@
 //! as from, and in that in which a turn ends.
 //!
 //! To the layer above: laws, each the clause of a function that does nothing. Of `IsLeft` of `pp_laws_served` they give `heads`, and
-//! where a turn may end `replies`, `unsaid` and `passes`, so that what is left to be shown is said of exchanges (`IsLeftOfAsks`). Of
-//! `MayEnd` they give that the last happening left the turn before its end.
+//! where a turn may end `filled`, `replies`, `unsaid`, `passes`, `asked` and `amid`, so that all that is left to be shown is that what waits
+//! for a body is somebody's (`IsLeftOfAsks`). Of `MayEnd` they give that the last happening left the
+//! turn before its end.
 //!
 //! Takes no memory, and does nothing when the program runs.
 #![tactic(auto)]
@@ -11,6 +12,7 @@
 mod left; // what a turn leaves of replies, of what is said and passed, and of places where no head is
 
 pub use left::{
-    ends_are_left, ends_are_to_pass, happenings_end_no_turn, left_is_left, senders_are_there,
-    turns_are_left, turns_are_spoken,
+    bodies_are_owned, ends_are_filled, ends_are_left, ends_are_to_pass, happenings_end_no_turn,
+    left_is_left, senders_are_there, turns_are_left, turns_are_owned, turns_are_spoken,
+    unseen_bodies_go,
 };

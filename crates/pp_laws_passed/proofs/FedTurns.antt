@@ -7,12 +7,12 @@ use Rattle.pp_law.specs.Deciding.{is_for_memory, mark_row_of, enter_row}
 use Rattle.pp_law.specs.Offers.{has_to_say}
 use Rattle.pp_law.specs.Opening.{is_at}
 use Rattle.pp_law.specs.Phases.{phases, in_phase, behind, next, is_done, come, come_to, decides, come_to_decide, deciding}
-use Rattle.pp_law.specs.Replies.{use_chunks, use_from, use_said, of_body, is_finished, close_finished, regained_by, regained}
+use Rattle.pp_law.specs.Replies.{use_chunks, use_from, use_said, of_body, is_finished, close_finished, is_regained, regained_by, regained}
 use Rattle.pp_law.specs.Requests.{key_in}
 use Rattle.pp_law.specs.State.{State, Phase, Before, IsWoken, IsConfigured, IsRooted, IsListed, IsListening, IsStuck, Awaiting, Handling, Evicting, Keeping, Deciding, Following, Connecting, DecidingAgain, Client, Conn, Exchange, Body, Pending, Joining, Relaying, Dropping}
-use Rattle.pp_law.specs.Table.{Next, is_next_held, next_of, row}
+use Rattle.pp_law.specs.Table.{Next, next_of, row}
 use Rattle.pp_law.specs.Turn.{waits_for_exchange, marked_client, marked_conn, touch, is_leap, marks_anew, is_idle_conn, owes_answer, end_patience, close_idle_conn, woken_client, renew_marks, tick_to, tick, rested_client, rested_conn, rested_instance, rest_with}
-use Rattle.pp_law.specs.Lists.{Bytes, is_some_with}
+use Rattle.pp_law.specs.Lists.{Bytes}
 use Rattle.pp_law.specs.Stages.{bound_in, is_pending}
 use Rattle.pp_law.specs.Unseen.{is_unseen, wanted_to, rested_exchange, drop_on, drop_unseen}
 use Rattle.pp_target.specs.Key.{text_of}
@@ -160,7 +160,7 @@ module _ {tale : Tale} where
 
   pub regained-fed : (s : State) → Fed tale s → Fed tale (regained s)
   unfolding regained
-  regained-fed s h = fed (clients_mapped s (regained_by s) (λ c. regained-by c (is_some_with (is_next_held s) (next_of s c))) (facts_of h))
+  regained-fed s h = fed (clients_mapped s (regained_by s) (λ c. regained-by c (is_regained s c)) (facts_of h))
 
   pub use_said-fed : (n : ℕ) (c : Client) (s : State) → Fed tale s → Fed tale (use_said n c s)
   use_said-fed n c s h = still (use_said-same n c s (itself s)) h

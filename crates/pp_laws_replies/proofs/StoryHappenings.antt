@@ -22,7 +22,7 @@ use Rattle.pp_law.specs.Connections.{client, conn, is_client, is_outstanding, ma
 use Rattle.pp_law.specs.Due.{due_decision}
 use Rattle.pp_law.specs.Deciding.{decided}
 use Rattle.pp_law.specs.Hearing.{fronted, heard_by, what_counts}
-use Rattle.pp_law.specs.Lawful.{LawfulFrom}
+use Rattle.pp_law.specs.Lawful.{Lawful, LawfulFrom}
 use Rattle.pp_law.specs.Leaving.{Leaving, ForAnother, ForMemory, BeforeDecision, leaving_as}
 use Rattle.pp_law.specs.Lists.{Bytes, is_some_with, is_this}
 use Rattle.pp_law.specs.Opening.{woken, begun as opening_begun, with_settings, settings_in, are_texts, names_file, is_opening}
@@ -620,3 +620,8 @@ from_start = record { old = []; counts_loads = false; excepts = None }
 pub replies_in_order : RepliesInOrder
 unfolding from_start
 replies_in_order terms log n lawful = (order_of (all_orderly {b = from_start} nothing_told (start terms) log refl refl lawful (start-sound from_start terms refl) (start_orderly n terms))).sofar
+
+-- what was told to a client, in the state behind a lawful log
+pub story_at : (n : ℕ) (terms : List Term) (log : Log) → Lawful terms log → (told : Told) × Orderly n told (after_all (start terms) log)
+unfolding from_start
+story_at n terms log lawful = (more_told nothing_told (heard_of n log) (said_to n log), all_orderly {b = from_start} nothing_told (start terms) log refl refl lawful (start-sound from_start terms refl) (start_orderly n terms))

@@ -80,8 +80,7 @@ pub record IsReply (c : Client) (r : Reply) : Type 0 where
   pub decided : is_passing r.decision ≡ false → r.has_begun ≡ false → (is_by_row r.decision ≡ true) × (is_some r.source ≡ true)
   pub followed : r.has_begun ≡ false → nat_lt r.at r.to ≡ true → is_followed_by r.decision ≡ true
 
--- of the state in which a turn ends, before replies begin. No law has these yet but the first; each is a fact of the states of a
--- turn, and none speaks of what is due
+-- of the state in which a turn ends, before replies begin: `pp_laws_left` has these, and says what it takes of them. None speaks of what is due
 pub record IsLeft (t : State) : Type 0 where
   -- what a client follows that goes on trying, of a row that stands, is there or comes: `ends_are_ready` has it (`IsReady`)
   pub filled : (c : Client) (n : Next) → IsIn c t.clients → next_of t c ≡ Some n → is_trying c.course ≡ true → n.source.is_retired ≡ false → is_provided t n ≡ true

@@ -7,13 +7,13 @@ use Rattle.pp_world.specs.declared.note.Decision.TheVariants.{Pass}
 use Rattle.pp_world.specs.declared.note.Decision.{Decision}
 use Rattle.pp_law.specs.Deciding.{refused_with, asking_with, reply_by, answering_with}
 use Rattle.pp_law.specs.Hearing.{what_counts, fronted, with_front, heard_by}
-use Rattle.pp_law.specs.Lists.{Bytes, is_some_with}
+use Rattle.pp_law.specs.Lists.{Bytes}
 use Rattle.pp_law.specs.Connections.{anew}
-use Rattle.pp_law.specs.Replies.{passed_reply, begun_passed, may_begin, begun_reply, begun_instance, begun_decided, begun_by, begun_at_end, said_of_body, said_of, said_by, regained_by}
+use Rattle.pp_law.specs.Replies.{passed_reply, begun_passed, may_begin, begun_reply, begun_instance, begun_decided, begun_by, begun_at_end, said_of_body, said_of, said_by, is_regained, regained_by}
 use Rattle.pp_law.specs.Requests.{Front, Parsed, NoHeadYet, NoHead, IsRequest, keeps_open}
 use Rattle.pp_law.specs.Stages.{is_passing, on_passed, passed_of, reply_of}
 use Rattle.pp_law.specs.State.{State, Client, Passed, Passes, Stage, Undecided, Waiting, Passing, Answering, Reply, Instance}
-use Rattle.pp_law.specs.Table.{source_of, is_next_held, next_of}
+use Rattle.pp_law.specs.Table.{source_of}
 use Rattle.pp_world.specs.declared.note.Decision.TheVariants.{Relay}
 use Rattle.pp_laws.proofs.Callers.{asking_with-same as asking_with-source, begun_at_end-same as begun_at_end-source, heard_by-same as heard_by-source, on_passed-same as on_passed-source, refused_with-same as refused_with-source, regained_by-same as regained_by-source, relayed-same as relayed-source, said_by-same as said_by-source}
 use Rattle.pp_laws.proofs.KeptClients.{SameClient as SameSource}
@@ -175,4 +175,4 @@ held_stays c true = record { closing = refl; front = refl; left = λ is. is; joi
 held_stays c false = stays c
 
 pub regained_by-same : (s : State) (c : Client) → SameClient (regained_by s c) c
-regained_by-same s c = both_of _ c (regained_by-source s c) (held_stays c (is_some_with (is_next_held s) (next_of s c)))
+regained_by-same s c = both_of _ c (regained_by-source s c) (held_stays c (is_regained s c))

@@ -5,14 +5,14 @@ use Rattle.pp_objects.specs.Instances.{Instance}
 use Rattle.pp_seats.specs.Follows.{next_of}
 use Rattle.pp_seats.specs.declared.seat.Course.TheVariants.{Trying}
 use Rattle.pp_seats.specs.declared.seat.Seat.{Seat}
-use Rattle.pp_state.specs.Ends.{KeepsRest, all_regained, changed_at, is_held_next, numbers_of, regained}
+use Rattle.pp_state.specs.Ends.{KeepsRest, all_regained, changed_at, is_regained, numbers_of, regained}
 use Rattle.pp_steps.specs.Evicting.{given_way, row_in_way, without_row}
 use Rattle.pp_state.specs.declared.state.State.{State}
 use Rattle.pp_state.proofs.SeatsLemmas.{changed_numbers}
 use Rattle.pp_world.specs.declared.note.Decision.{Decision}
 
 regained_number : (m : Memory) (seat : Seat) → (regained m seat).client.id ≡ seat.client.id
-regained_number m seat = by (is_held_next (next_of seat) m)
+regained_number m seat = by (is_regained m seat)
   where
     by : (b : Bool) → (if b then record seat { course = Trying 0 } else seat).client.id ≡ seat.client.id
     by true = refl

@@ -1,5 +1,5 @@
 -- A client has come: it has a seat, the last, or is turned away (ours).
-use Rattle.std.specs.Prelude.{◌≡◌, ◌<◌, ◌⊎◌, ℕ, Bool, cond, [], ◌∷◌, ◌++◌, length, vec_capacity, Some}
+use Rattle.std.specs.Prelude.{◌≡◌, ◌<◌, ◌≤◌, ◌⊎◌, ℕ, Bool, cond, [], ◌∷◌, ◌++◌, length, vec_capacity, Some}
 use Rattle.pp_client.specs.Clients.{new_client}
 use Rattle.pp_desk.specs.declared.desk.Desk.{Desk}
 use Rattle.pp_seats.specs.Seats.{new_seat}
@@ -22,6 +22,7 @@ newcomer c d = record (new_seat (new_client c d.state.now)) { account = first_ac
 pub record IsSeated (seat : Seat) (old new : Desk) : Type 0 where
   pub seats : new.state.seats.items ≡ old.state.seats.items ++ seat ∷ []
   pub awake : AreInOrder old.state.awake.items → length old.state.awake.items < vec_capacity old.state.awake → new.state.awake.items ≡ with_number (length old.state.seats.items) old.state.awake.items
+  pub room : vec_capacity old.state.awake ≤ vec_capacity new.state.awake
   pub rest : record new { state = record new.state { seats = old.state.seats; awake = old.state.awake } } ≡ old
 
 -- where there is no memory for it, it is turned away, and this life goes astray

@@ -1,5 +1,5 @@
 -- A turn from one wait to the next: what is waited for, what the wait changes, and the event, if one came (ours).
-use Rattle.std.specs.Prelude.{◌≡◌, ◌≤◌, ℕ, IsTrue, nat_lt, false, map, length, take, List, [], Option, Some, None}
+use Rattle.std.specs.Prelude.{◌≡◌, ◌≤◌, ℕ, IsTrue, nat_lt, false, map, length, take, vec_capacity, List, [], Option, Some, None}
 use Rattle.std.specs.List.{filter}
 use Rattle.pp_desk.specs.Anything.{anything}
 use Rattle.pp_desk.specs.declared.desk.Desk.{Desk}
@@ -46,6 +46,7 @@ pub record Awaits (before : List ℕ) (wants : Wants) (clients : ℕ) (old new :
   pub read : AreSeated old.state → AreInOrder before → wants.read.items ≡ all_got (loud_of old) (parts old.state) old.peers (all_read old.state before)
   pub write : AreSeated old.state → wants.write.items ≡ all_asked (parts old.state) old.peers (all_written old.state [])
   pub awake : new.state.awake.items ≡ loud_of old
+  pub room : vec_capacity new.state.awake ≡ vec_capacity old.state.awake
   pub seats : new.state.seats.items ≡ old.state.seats.items
   pub rest : record new { state = record new.state { seats = old.state.seats; awake = old.state.awake } } ≡ old
 

@@ -31,3 +31,4 @@ pub record TakesEvent (event : Event) (x y : Turning) : Type 0 where
   pub kept_bounded : IsBounded kept.moving.desk.state.cache
   pub settles : AreSeated kept.moving.desk.state → LeadsOn (Settles kept.shelf) kept.moving y.moving kept.log y.log kept.faults y.faults
   pub settles_shelf : y.shelf ≡ kept.shelf
+  pub bounded : IsBounded y.moving.desk.state.cache

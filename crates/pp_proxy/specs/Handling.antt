@@ -33,6 +33,7 @@ pub record Stops (old new : Desk) : Type 0 where
 pub record TicksOn (seconds : ℕ) (old new : Desk) : Type 0 where
   pub is : sides new ≡ ticked (max old.state.now seconds) old.state (sides old)
   pub awake : length old.state.seats.items ≤ vec_capacity old.state.awake → new.state.awake.items ≡ places (length old.state.seats.items)
+  pub room : vec_capacity old.state.awake ≤ vec_capacity new.state.awake
   pub rest : record new { state = record new.state { seats = old.state.seats; flow = old.state.flow; cache = old.state.cache; refused = old.state.refused; is_astray = old.state.is_astray; awake = old.state.awake }; peers = old.peers } ≡ record old { state = record old.state { now = max old.state.now seconds; has_ticked = true; is_ticked = true; has_lost_draft = false } }
 
 -- this one is looked at too

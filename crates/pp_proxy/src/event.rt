@@ -198,6 +198,7 @@ fn refuse(desk: &mut Desk, c: u64)
 fn tick(desk: &mut Desk, seconds: u64)
     ensures is { AreSeated desk.old.state → sides desk.new ≡ ticked (max desk.old.state.now seconds) desk.old.state (sides desk.old) }
     ensures awake { length desk.old.state.seats.items ≤ vec_capacity desk.old.state.awake → desk.new.state.awake.items ≡ places (length desk.old.state.seats.items) }
+    ensures room { vec_capacity desk.old.state.awake ≤ vec_capacity desk.new.state.awake }
     ensures rest { record desk.new { state = record desk.new.state { seats = desk.old.state.seats; flow = desk.old.state.flow; cache = desk.old.state.cache; refused = desk.old.state.refused; is_astray = desk.old.state.is_astray; awake = desk.old.state.awake }; peers = desk.old.peers } ≡ record desk.old { state = record desk.old.state { now = max desk.old.state.now seconds; has_ticked = true; is_ticked = true; has_lost_draft = false } } }
 {
     let now = desk.state.now.max(seconds);
@@ -216,6 +217,7 @@ fn is_leap(desk: &Desk, now: u64) -> bool
 fn begin_second(state: &mut State, now: u64)
     ensures seats { state.new.seats.items ≡ map (woken_seat now state.old) state.old.seats.items }
     ensures awake { length state.old.seats.items ≤ vec_capacity state.old.awake → state.new.awake.items ≡ places (length state.old.seats.items) }
+    ensures room { vec_capacity state.old.awake ≤ vec_capacity state.new.awake }
     ensures rest { record state.new { seats = state.old.seats; awake = state.old.awake } ≡ record state.old { now = now; has_ticked = true; is_ticked = true; has_lost_draft = false } }
 {
     renew_marks(state, now);

@@ -1,5 +1,5 @@
 // The steps of a turn.
-ghost use Rattle.std.specs.Prelude.{◌≡◌, ◌≤◌, ◌||◌, true, [], ◌∷◌, ◌++◌, is_some};
+ghost use Rattle.std.specs.Prelude.{◌≡◌, ◌≤◌, true, [], ◌∷◌, ◌++◌, is_some};
 ghost use Rattle.pp_links.specs.Links.{IsLinked};
 ghost use Rattle.pp_links.specs.Quiet.{GrowsQuietly};
 ghost use Rattle.pp_shelf.specs.Steady.{GrowsSteadily};
@@ -60,6 +60,7 @@ pub(crate) fn take_event<W: World>(
     keep(desk, links, shelf, world);
     desk.state.cache.bounds();
     settle(desk, links, shelf, world);
+    desk.state.cache.bounds();
 }
 
 /// Decides, and goes on with what was decided; at the end all is closed.
@@ -121,14 +122,7 @@ fn go_rounds<W: Wire>(desk: &mut Desk, links: &mut Links, shelf: &Shelf, world: 
         }
         is_decided = go_round(desk, links, shelf, world);
     }
-    note_more(&mut desk.state, is_decided);
-}
-
-/// This life goes astray where there is more to decide.
-fn note_more(state: &mut State, is_decided: bool)
-    ensures { state.new ≡ record state.old { is_astray = state.old.is_astray || is_decided } }
-{
-    state.is_astray = state.is_astray || is_decided;
+    desk.state.note_more(is_decided);
 }
 
 /// What nobody will see is not read on, asks that bring nothing are given up, followers ask, connections that are

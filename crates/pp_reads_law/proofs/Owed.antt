@@ -8,12 +8,11 @@ use Rattle.pp_events_law.proofs.Anew.{anew_if}
 use Rattle.pp_law.specs.After.{event, owing}
 use Rattle.pp_law.specs.Asking.{pipe_room, read_limit, read_room}
 use Rattle.pp_law.specs.Connections.{conn, exchange, is_client, is_conn, on_client, on_conn}
-use Rattle.pp_law.specs.Lists.{first_some, is_some_with}
+use Rattle.pp_law.specs.Lists.{first_some}
 use Rattle.pp_law.specs.Phases.{in_phase}
-use Rattle.pp_law.specs.Replies.{regained, regained_by}
+use Rattle.pp_law.specs.Replies.{is_regained, regained, regained_by}
 use Rattle.pp_law.specs.Stages.{is_begun}
 use Rattle.pp_law.specs.State.{State, Client, Conn, Exchange, Handling, ReadOf}
-use Rattle.pp_law.specs.Table.{is_next_held, next_of}
 use Rattle.pp_law.specs.Turn.{marked_client, marked_conn, touch}
 use Rattle.pp_laws.proofs.Lists.{From, in_map}
 use Rattle.pp_laws.specs.Runs.{IsIn}
@@ -56,8 +55,8 @@ unfolding kept_of
 kept_same k s g anew mark c = by (is_client k c)
   where
     by : (b : Bool) → g (regained_by s (elim b as (λ t. Client) [ true ↦ marked_client s.clock c | false ↦ c ])) ≡ g c
-    by true = anew (is_some_with (is_next_held s) (next_of s (marked_client s.clock c))) (marked_client s.clock c) ∙ mark c
-    by false = anew (is_some_with (is_next_held s) (next_of s c)) c
+    by true = anew (is_regained s (marked_client s.clock c)) (marked_client s.clock c) ∙ mark c
+    by false = anew (is_regained s c) c
 
 -- ---- how much may be read
 

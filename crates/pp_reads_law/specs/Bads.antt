@@ -1,8 +1,8 @@
 -- What is no response, or comes before its ask was asked whole: its connection is closed (RFC 2616, sections 6 and 8.1.4).
 --
 -- Where the premises come from: that the connection goes on is what the program looks for before each step (`going_on`); that a head is due, or
--- is none because nothing was asked whole, is what its pipe awaits (AwaitedIsTheLaws of pp_peers_law). MayClose is of IsSoundTurn, but that
--- more of what is passed is to come while its exchange is there, which has no source yet (as in pp_deciding_law).
+-- is none because nothing was asked whole, is what its pipe awaits (AwaitedIsTheLaws of pp_peers_law). MayClose is of IsSoundTurn, and that
+-- more of what is passed is to come while its exchange is there is of `pp_rests_law` (its Closing).
 use Rattle.std.specs.Prelude.{◌≡◌, ℕ, true, false, Some}
 use Rattle.pp_closings_law.specs.Sides.{OfSides, ShowsSides}
 use Rattle.pp_desk.specs.Closings.{Sides}

@@ -1,8 +1,8 @@
 -- The end of an empty body (RFC 2616, section 4.4): the law ends the response with its head, by the exchange as it was before; the program with the
 -- next step of its pipe, by the exchange as it is then. Both are the same, as a head notes no more of its exchange than where its body goes.
 --
--- Where the premises come from: `once` and `pipelines` are of IsSoundTurn (`once`, `pipelines`), and that clients go on too (`askers`), but that
--- more of what is passed is to come while its exchange is there, which has no source yet (as in pp_deciding_law). That the head leaves what
+-- Where the premises come from: `once` and `pipelines` are of IsSoundTurn (`once`, `pipelines`), and that clients go on too (`askers`), and that
+-- more of what is passed is to come while its exchange is there is of `pp_rests_law` (its Closing). That the head leaves what
 -- HeadIsTaken has is shown by HeadsComeAsTheLaws of Heads; `aim` is of its MayAnswer.
 use Rattle.std.specs.Prelude.{◌≡◌, ◌⊎◌, ◌≤◌, ℕ, false, [], length, count_by, Option, Some}
 use Rattle.std.specs.List.{find}

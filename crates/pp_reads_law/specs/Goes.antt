@@ -1,7 +1,8 @@
 -- Who is answered, and is not to be closed behind that, can go on to the next request (RFC 2616, section 8.1).
 --
 -- Where it comes from: a client is not to be closed where the request says so that it is answered from (`keeps_open`: as a reply begins, `Begun`
--- in proofs/Stories of pp_laws_replies), so that its request is there with a known end; requests are counted, one a turn at most: no source yet.
+-- in proofs/Stories of pp_laws_replies), so that its request is there with a known end; requests are counted, 256 a happening at most
+-- (`pp_laws_sides`).
 use Rattle.std.specs.Prelude.{◌≡◌, ◌≤◌, ◌+◌, ◌-◌, ◌^◌, true, false, is_ok}
 use Rattle.pp_law.specs.Requests.{Parsed, IsRequest}
 use Rattle.pp_law.specs.Stages.{is_begun}

@@ -252,12 +252,16 @@ stays_stopped more shelf x y log any decides is = (decides_look more shelf x y l
 pub decisions_stay : DecisionsStayAstray
 decisions_stay more shelf x y log any decides is = (decides_look more shelf x y log any decides).astray is
 
--- so what was found for one that is taken, and others behind it, was given
+-- so behind one of them this life did not
+pub decided_well : (more : ℕ) (shelf : KeptMap) (x y : Moving) (log : Log) (any : Bool) → Decides more shelf x log y any → y.desk.state.is_astray ≡ false → x.desk.state.is_astray ≡ false
+decided_well more shelf x y log any decides well = well_before x.desk.state.is_astray y.desk.state.is_astray (decisions_stay more shelf x y log any decides) well
+
+-- and what was found for one that is taken, and others behind it, was given
 pub found_given : (more : ℕ) (shelf : KeptMap) (x next y : Moving) (first rest : Log) (later : Bool) (found : Turn) (d : ℕ × Due) → FirstDue shelf x.desk.state.awake.items x.desk.state found (Some d) → TakesOne d.0 d.1 (with_state found x) first next → Decides more shelf next rest y later
     → y.desk.state.is_astray ≡ false → FirstDueInMemory shelf x.desk.state.awake.items x.desk.state found (Some d)
 found_given more shelf x next y first rest later found d looked takes decides well =
-    let next_well : next.desk.state.is_astray ≡ false = well_before next.desk.state.is_astray y.desk.state.is_astray (decisions_stay more shelf next y rest later decides) well in
-    first_given shelf x.desk.state.awake.items x.desk.state found (Some d) looked (well_before found.is_astray next.desk.state.is_astray (one_looks d.0 d.1 (with_state found x) next first takes).astray next_well)
+    first_given shelf x.desk.state.awake.items x.desk.state found (Some d) looked
+    (well_before found.is_astray next.desk.state.is_astray (one_looks d.0 d.1 (with_state found x) next first takes).astray (decided_well more shelf next y rest later decides well))
 
 pub all_stay : AllDecisionsStayAstray
 all_stay shelf x y log any all is = decisions_stay 65536 shelf all.between y all.rest all.later all.decides (ap (λ (d : Desk). d.state.is_astray) all.turned.desk ∙ is)

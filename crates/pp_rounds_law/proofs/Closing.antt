@@ -50,12 +50,12 @@ use Rattle.pp_world.specs.declared.event.Side.{Side}
 use Rattle.pp_world.specs.declared.event.Side.TheVariants.{Client as OfClient, Origin}
 use Rattle.pp_world.specs.declared.happening.Happening.TheVariants.{Dropped, Shut}
 use Rattle.pp_rounds_law.proofs.Carried.{Holds, WasAt, carries_itself, loosely, same_seat}
-use Rattle.pp_rounds_law.proofs.Coming.{comes_by, none_fail}
+use Rattle.pp_rounds_law.proofs.Coming.{comes_by, none_fail, brief_before}
 use Rattle.pp_rounds_law.proofs.Decided.{limits_by, top_of}
 use Rattle.pp_rounds_law.proofs.Left.{few_left, given_left, over_linked}
 use Rattle.pp_rounds_law.proofs.Over.{IsLeft, clients_open, fewer_seats, left_at, seated_left}
 use Rattle.pp_rounds_law.proofs.Ready.{awake_on, ready_on, sourced}
-use Rattle.pp_rounds_law.specs.Coming.{ComesTo}
+use Rattle.pp_rounds_law.specs.Coming.{ComesTo, IsBrief}
 use Rattle.pp_rounds_law.specs.Stands.{StandsAmid}
 use Rattle.pp_rounds_law.specs.Steps.{ClosingsInARound, HasClosed}
 use Rattle.pp_rounds_law.specs.Supplies.{RoundSupplies}
@@ -82,8 +82,8 @@ asks_nothing s sound n c there closing =
 
 -- ---- all of it
 
-module _ (terms : List Term) (before : Log) (number : ℕ → ℕ) (shelf : KeptMap) (I : Turn → State → Type 0) (x y : Moving) (log : Log) (s : State) (supplies : RoundSupplies shelf I) (obeys : Obeys terms s before) (amid : StandsAmid number shelf x s) (holds : I x.desk.state s) (at : s.phase ≡ Connecting)
-    (over : ClosesOver x log y) where
+module _ (terms : List Term) (most : ℕ) (before : Log) (number : ℕ → ℕ) (shelf : KeptMap) (I : Turn → State → Type 0) (x y : Moving) (log : Log) (s : State) (supplies : RoundSupplies terms most shelf I) (obeys : Obeys terms s before) (brief : IsBrief most (before ++ log)) (amid : StandsAmid number shelf x s) (holds : I x.desk.state s) (at : s.phase ≡ Connecting)
+    (over : ClosesOver x log y) (well : y.desk.state.is_astray ≡ false) where
   abbrev p : Turn
   p = x.desk.state
 
@@ -103,7 +103,7 @@ module _ (terms : List Term) (before : Log) (number : ℕ → ℕ) (shelf : Kept
   may = record { connecting = record { at = at; none = amid.none }; alone = asks_nothing s sound }
 
   shows : ShowsSides number p.name.items (sides_of p peers) s
-  shows = record { steps = amid.turn.steps; may = supplies.decides.closes p s holds }
+  shows = record { steps = amid.turn.steps; may = supplies.closes before number x s obeys (brief_before most before log brief) amid holds }
 
   clients : AreOpen (over_clients p) x.links
   clients = clients_open p x.links amid.seated
@@ -225,8 +225,8 @@ module _ (terms : List Term) (before : Log) (number : ℕ → ℕ) (shelf : Kept
     phase = is.stays.connecting.at;
     closed = is.closed;
     amid = amid_then;
-    holds = supplies.closed number x y log s t holds amid over (subst (λ (hs : Log). Leads hs s t) (sym over.log_is) is.leads) amid_then sound_then;
+    holds = supplies.closed before number x y log s t obeys (brief_before most before log brief) amid holds at over (subst (λ (hs : Log). Leads hs s t) (sym over.log_is) is.leads) came.obeys brief amid_then well;
   }
 
 pub closing : ClosingsInARound
-closing terms before number shelf test x y log s supplies obeys amid holds at over = has_closed terms before number shelf (Passes test) x y log s supplies obeys amid holds at over
+closing terms most before number shelf test x y log s supplies obeys brief amid holds at over well = has_closed terms most before number shelf (Passes test) x y log s supplies obeys brief amid holds at over well

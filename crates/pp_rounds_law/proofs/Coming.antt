@@ -1,5 +1,5 @@
 -- A log goes on step by step: by happenings that lead there, by a phase that is done, and by both.
-use Rattle.std.proofs.Common.{◌≡◌, ◌≤◌, refl, sym, subst, ap, ◌∙◌, ℕ, ◌+◌, Bool, true, false, cond, List, [], ◌∷◌, ◌++◌, append_assoc, append-nil, nat_lt, arith, Option}
+use Rattle.std.proofs.Common.{◌≡◌, ◌≤◌, refl, sym, subst, ap, ◌∙◌, ℕ, ◌+◌, Bool, true, false, cond, List, [], ◌∷◌, ◌++◌, append_assoc, append-nil, length-append, nat_lt, arith, Option}
 use Rattle.std.proofs.lemmas.Bool.Decides.{nat_tests}
 use Rattle.std.specs.Prelude.{count_by}
 use Rattle.pp_cache_law.proofs.PairLemmas.{count_first, count_joined}
@@ -15,7 +15,7 @@ use Rattle.pp_obeys.specs.Calls.{Passes}
 use Rattle.pp_obeys.specs.Failures.{GoesOnIn, fails}
 use Rattle.pp_obeys.specs.Moves.{Adds, Is, Leads}
 use Rattle.pp_obeys.specs.Obeys.{From, Keeps, Obeys, Stands}
-use Rattle.pp_rounds_law.specs.Coming.{Affords, ComesTo, ComesWhere, ComingKeeps}
+use Rattle.pp_rounds_law.specs.Coming.{Affords, ComesTo, ComesWhere, ComingKeeps, IsBrief}
 use Rattle.pp_world.specs.Log.{Log}
 
 -- so many failures, if any, are allowed
@@ -92,6 +92,19 @@ affords_then terms before first rest s t comes affords =
 
 pub affords_front : (s : State) (first rest : Log) → Affords s (first ++ rest) → Affords s first
 affords_front s first rest affords = omega (arith, affords, count_joined fails first rest)
+
+-- so many happenings: in all of it, and in what stands before
+pub brief_before : (most : ℕ) (before log : Log) → IsBrief most (before ++ log) → IsBrief most before
+brief_before most before log brief = omega (arith, brief, length-append before log)
+
+pub brief_then : (most : ℕ) (before first rest : Log) → IsBrief most (before ++ (first ++ rest)) → IsBrief most ((before ++ first) ++ rest)
+brief_then most before first rest brief = subst (λ (hs : Log). IsBrief most hs) (sym (append_assoc before first rest)) brief
+
+pub brief_front : (most : ℕ) (before first rest : Log) → IsBrief most (before ++ (first ++ rest)) → IsBrief most (before ++ first)
+brief_front most before first rest brief = brief_before most (before ++ first) rest (brief_then most before first rest brief)
+
+pub brief_as : (most : ℕ) (before log hs : Log) → log ≡ hs → IsBrief most (before ++ log) → IsBrief most (before ++ hs)
+brief_as most before log hs is brief = subst (λ (ks : Log). IsBrief most (before ++ ks)) is brief
 
 -- ---- calls that add them
 

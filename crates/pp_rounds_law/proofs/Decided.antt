@@ -5,14 +5,13 @@ use Rattle.std.specs.Prelude.{count_by, option_and_then, option_map, slice_get, 
 use Rattle.pp_cache_law.proofs.PairLemmas.{count_first}
 use Rattle.pp_closings_law.specs.Log.{AreLinked}
 use Rattle.pp_conf.specs.Conf.{Settings}
-use Rattle.pp_deciding_law.proofs.Found.{first_keeps, found_due, none_next}
+use Rattle.pp_deciding_law.proofs.Found.{first_keeps, found_due}
 use Rattle.pp_deciding_law.specs.Stands.{NoneIsNext, StandsBehind}
 use Rattle.pp_desk.specs.Closings.{peer_numbers}
 use Rattle.pp_due.specs.Due.{due_at, due_of}
 use Rattle.pp_due.specs.Entering.{FirstDue}
 use Rattle.pp_law.specs.Due.{first_due}
 use Rattle.pp_law.specs.State.{State, Phase, Term, Deciding}
-use Rattle.pp_laws_turn.proofs.Laws.{sound_turns}
 use Rattle.pp_links.specs.Links.{Link}
 use Rattle.pp_obeys.specs.Failures.{fails}
 use Rattle.pp_obeys.specs.Moves.{Leads}
@@ -23,8 +22,8 @@ use Rattle.pp_places_law.specs.Closings.{AreOpen}
 use Rattle.pp_proxy.specs.Deciding.{Decides, TakesOne}
 use Rattle.pp_proxy.specs.Moving.{Moving, with_state}
 use Rattle.pp_proxy.specs.Taking.{due_log_for, due_log_of, who_at}
-use Rattle.pp_rounds_law.proofs.Astray.{first_given, found_given}
-use Rattle.pp_rounds_law.proofs.Decisions.{decides_one}
+use Rattle.pp_rounds_law.proofs.Astray.{decided_well, first_given, found_given}
+use Rattle.pp_rounds_law.proofs.Decisions.{decides_none, decides_one}
 use Rattle.pp_rounds_law.specs.Decisions.{AllDecided, Passes}
 use Rattle.pp_seats.specs.declared.due.Due.{Due}
 use Rattle.pp_seats.specs.declared.due.Due.TheVariants.{Decide, CutOff}
@@ -40,10 +39,10 @@ use Rattle.pp_world.specs.declared.happening.Happening.TheVariants.{Noted}
 use Rattle.pp_world.specs.declared.note.Decision.{Decision}
 use Rattle.pp_world.specs.declared.note.Remark.{Remark}
 use Rattle.pp_world.specs.declared.note.Remark.TheVariants.{Cut, Forgotten, Taken}
-use Rattle.pp_rounds_law.proofs.Coming.{comes_by, comes_then, none_fail}
+use Rattle.pp_rounds_law.proofs.Coming.{comes_by, comes_then, none_fail, brief_as, brief_before, brief_front, brief_then}
 use Rattle.pp_rounds_law.proofs.Noted.{IsBehind, SetAs, cut_leads, forgotten_leads, set_itself, taken_leads}
 use Rattle.pp_rounds_law.proofs.Went.{Went, as_many, went_found, went_one, went_then}
-use Rattle.pp_rounds_law.specs.Coming.{ComesTo}
+use Rattle.pp_rounds_law.specs.Coming.{ComesTo, IsBrief}
 use Rattle.pp_rounds_law.specs.InRounds.{AreDecided, DecisionsInARound, phase_behind}
 use Rattle.pp_rounds_law.specs.Stands.{StandsInRound}
 use Rattle.pp_rounds_law.specs.Supplies.{RoundSupplies}
@@ -126,13 +125,19 @@ still_deciding : (later : Bool) (phase : Phase) → phase ≡ Deciding → phase
 still_deciding true phase is = refl
 still_deciding false phase is = is
 
+deciding_then : (any later : Bool) (was mid : Phase) (t : State) → any ≡ true → mid ≡ Deciding → t.phase ≡ phase_behind later mid → t.phase ≡ phase_behind any was
+deciding_then any later was mid t is decided so = so ∙ still_deciding later mid decided ∙ ap (λ (b : Bool). phase_behind b was) (sym is)
+
+never : (any : Bool) (t s : State) → any ≡ true → any ≡ false → t ≡ s
+never any t s is isnt = absurd (let both : true ≡ false = sym is ∙ isnt in cc both)
+
 abbrev Then : ℕ → KeptMap → Moving → Turn → Log → Moving → Bool → Option (ℕ × Due) → Type 0
 Then more shelf x found log y any due = elim due [
   | None ↦ (log ≡ []) × (y ≡ with_state found x) × (any ≡ false)
   | Some d ↦ (next : Moving) × (first : Log) × (rest : Log) × (later : Bool) × (log ≡ first ++ rest) × TakesOne d.0 d.1 (with_state found x) first next × Decides more shelf next rest y later × (any ≡ true)
 ]
 
-module _ (terms : List Term) (shelf : KeptMap) (I : Turn → State → Type 0) (supplies : RoundSupplies shelf I) where
+module _ (terms : List Term) (most : ℕ) (shelf : KeptMap) (I : Turn → State → Type 0) (supplies : RoundSupplies terms most shelf I) where
   abbrev Ends : Log → Moving → Log → Bool → State → Type 0
   Ends before y log any s = AreDecided terms before shelf I y log any s
 
@@ -148,21 +153,21 @@ module _ (terms : List Term) (shelf : KeptMap) (I : Turn → State → Type 0) (
   }
 
   abbrev Onward : ℕ → Type 0
-  Onward more = (before : Log) (x y : Moving) (log : Log) (any : Bool) (s : State) → Obeys terms s before → StandsInRound shelf x s → I x.desk.state s → Decides more shelf x log y any → y.desk.state.is_astray ≡ false → Ends before y log any s
+  Onward more = (before : Log) (x y : Moving) (log : Log) (any : Bool) (s : State) → Obeys terms s before → IsBrief most (before ++ log) → StandsInRound shelf x s → I x.desk.state s → Decides more shelf x log y any → y.desk.state.is_astray ≡ false → Ends before y log any s
 
-  step : (more : ℕ) → Onward more → (before : Log) (x y : Moving) (log : Log) (any : Bool) (s : State) → Obeys terms s before → StandsInRound shelf x s → I x.desk.state s → (found : Turn) (due : Option (ℕ × Due)) → FirstDue shelf x.desk.state.awake.items x.desk.state found due
+  step : (more : ℕ) → Onward more → (before : Log) (x y : Moving) (log : Log) (any : Bool) (s : State) → Obeys terms s before → IsBrief most (before ++ log) → StandsInRound shelf x s → I x.desk.state s → (found : Turn) (due : Option (ℕ × Due)) → FirstDue shelf x.desk.state.awake.items x.desk.state found due
       → Then more shelf x found log y any due → y.desk.state.is_astray ≡ false → Ends before y log any s
-  step more onward before x y log any s obeys stands holds found None looked here well =
-      let given : FirstDueInMemory shelf x.desk.state.awake.items x.desk.state found None = first_given shelf x.desk.state.awake.items x.desk.state found None looked (sym (ap (λ (z : Moving). z.desk.state.is_astray) here.1) ∙ well) in
-      let behind : StandsBehind x.desk.peers shelf x.desk.state s = behind_of shelf x s stands in
-      let none : NoneIsNext x.desk.peers shelf found s = none_next behind.number x.desk.peers shelf x.desk.state found s behind.stands (sound_turns terms s before obeys) given in
-      let after_it : I found s = supplies.decides.none x.desk.state found s holds given in
+  step more onward before x y log any s obeys brief stands holds found None looked here well =
+      let found_well : found.is_astray ≡ false = sym (ap (λ (z : Moving). z.desk.state.is_astray) here.1) ∙ well in
+      let given : FirstDueInMemory shelf x.desk.state.awake.items x.desk.state found None = first_given shelf x.desk.state.awake.items x.desk.state found None looked found_well in
+      let none : NoneIsNext x.desk.peers shelf found s × I found s = decides_none terms most shelf I supplies.decides before x s obeys (brief_before most before log brief) (behind_of shelf x s stands) holds found given found_well in
       nothing before y (with_state found x) log any s obeys
-      (stands_on shelf x (with_state found x) s s stands (went_found x found (first_keeps shelf x.desk.state.awake.items x.desk.state found None given)) (set_itself s) none.behind)
-      after_it here.1 here.0 here.2 none.none
-  step more onward before x y log any s obeys stands holds found (Some d) looked (next, first, rest, later, is, takes, decides, any_is) well =
+      (stands_on shelf x (with_state found x) s s stands (went_found x found (first_keeps shelf x.desk.state.awake.items x.desk.state found None given)) (set_itself s) none.0.behind)
+      none.1 here.1 here.0 here.2 none.0.none
+  step more onward before x y log any s obeys brief stands holds found (Some d) looked (next, first, rest, later, is, takes, decides, any_is) well =
       let given : FirstDueInMemory shelf x.desk.state.awake.items x.desk.state found (Some d) = found_given more shelf x next y first rest later found d looked takes decides well in
-      let one : AllDecided shelf I next first s = decides_one terms shelf I supplies.decides before x s obeys (behind_of shelf x s stands) holds found d next first given takes in
+      let all : IsBrief most (before ++ (first ++ rest)) = brief_as most before log (first ++ rest) is brief in
+      let one : AllDecided shelf I next first s = decides_one terms most shelf I supplies.decides before x s obeys (behind_of shelf x s stands) holds found d next first given takes (brief_front most before first rest all) (decided_well more shelf next y rest later decides well) in
       let seat : (seat : Seat) × (slice_get found.seats.items d.0 ≡ Some seat) = seat_due d.0 found d.1 (found_due shelf x.desk.state.awake.items x.desk.state found d.0 d.1 given) in
       let who : who_at d.0 found ≡ Some (seat.0.client.id, seat.0.index) = ap (λ (o : Option Seat). option_map (λ (z : Seat). (z.client.id, z.index)) o) seat.1 in
       let log_is : first ≡ due_log_for (seat.0.client.id, seat.0.index) d.0 d.1 found = takes.log_is ∙ ap (λ (o : Option (ℕ × ℕ)). due_log_of o d.0 d.1 found) who in
@@ -172,21 +177,21 @@ module _ (terms : List Term) (shelf : KeptMap) (I : Turn → State → Type 0) (
       let went : Went x next =
       went_then x (with_state found x) next (went_found x found (first_keeps shelf x.desk.state.awake.items x.desk.state found (Some d) given)) (went_one d.0 d.1 (with_state found x) first next takes) in
       let there : StandsInRound shelf next one.then = stands_on shelf x next s one.then stands went law.set one.stands in
-      let last : Ends (before ++ first) y rest later one.then = onward (before ++ first) next y rest later one.then came.obeys there one.holds decides well in
+      let last : Ends (before ++ first) y rest later one.then = onward (before ++ first) next y rest later one.then came.obeys (brief_then most before first rest all) there one.holds decides well in
       record {
         then = last.then;
         comes = subst (λ (hs : Log). ComesTo terms before hs s last.then) (sym is) (comes_then terms before first rest s one.then last.then came last.comes);
         stands = last.stands;
         holds = last.holds;
-        phase = last.phase ∙ still_deciding later one.then.phase law.phase ∙ ap (λ (b : Bool). phase_behind b s.phase) (sym any_is);
-        unless = λ none. absurd (let bad : true ≡ false = sym any_is ∙ none in cc bad);
+        phase = deciding_then any later s.phase one.then.phase last.then any_is law.phase last.phase;
+        unless = λ none. never any last.then s any_is none;
         none = last.none;
       }
 
   pub decides_round : (more : ℕ) → Onward more
   unfolding Decides
-  decides_round zero before x y log any s obeys stands holds it well = absurd (let both : true ≡ false = sym (ap (λ (z : Moving). z.desk.state.is_astray) it.1) ∙ well in cc both)
-  decides_round (suc more) before x y log any s obeys stands holds (found, due, first, rest) well = step more (decides_round more) before x y log any s obeys stands holds found due first rest well
+  decides_round zero before x y log any s obeys brief stands holds it well = absurd (let both : true ≡ false = sym (ap (λ (z : Moving). z.desk.state.is_astray) it.1) ∙ well in cc both)
+  decides_round (suc more) before x y log any s obeys brief stands holds (found, due, first, rest) well = step more (decides_round more) before x y log any s obeys brief stands holds found due first rest well
 
 pub decisions : DecisionsInARound
-decisions terms before shelf test more x y log any s supplies obeys stands holds it well = decides_round terms shelf (Passes test) supplies more before x y log any s obeys stands holds it well
+decisions terms most before shelf test more x y log any s supplies obeys brief stands holds it well = decides_round terms most shelf (Passes test) supplies more before x y log any s obeys brief stands holds it well

@@ -1,7 +1,6 @@
 -- All decisions lead on, one behind the other.
 use Rattle.std.proofs.Common.{◌≡◌, refl, sym, subst, ap, ◌∙◌, ℕ, zero, suc, Bool, true, false, List, [], ◌∷◌, ◌++◌, append_assoc, append-nil, Option, Some, None, option_map}
 use Rattle.std.specs.Prelude.{option_and_then, slice_get, ⊤}
-use Rattle.pp_cache.specs.Bounds.{IsBounded}
 use Rattle.pp_closings_law.specs.Sides.{MayClose}
 use Rattle.pp_decides_law.proofs.Sitting.{is_at}
 use Rattle.pp_decides_law.proofs.StandingOn.{find_at}
@@ -50,8 +49,10 @@ use Rattle.pp_world.specs.declared.happening.Happening.TheVariants.{Noted}
 use Rattle.pp_world.specs.declared.note.Cause.{Cause}
 use Rattle.pp_world.specs.declared.note.Decision.{Decision}
 use Rattle.pp_world.specs.declared.note.Remark.TheVariants.{Cut, Taken}
-use Rattle.pp_rounds_law.proofs.Astray.{first_given, found_given}
-use Rattle.pp_rounds_law.specs.Decisions.{AllDecided, AllLead, Passes, Supplies}
+use Rattle.pp_rounds_law.proofs.Astray.{decided_well, first_given, found_given}
+use Rattle.pp_rounds_law.proofs.Coming.{brief_as, brief_before, brief_front, brief_then}
+use Rattle.pp_rounds_law.specs.Coming.{IsBrief}
+use Rattle.pp_rounds_law.specs.Decisions.{AllDecided, AllLead, IsMoment, Passes, Supplies}
 
 -- ---- a log that goes on so
 
@@ -91,11 +92,10 @@ found_there shelf (j ∷ places) p q i d (now, due, its, rest) none = by (λ mor
 
 -- ---- one
 
-record Stepped (shelf : KeptMap) (I : Turn → State → Type 0) (y : Moving) (log : Log) (s : State) : Type 0 where
+record Stepped (terms : List Term) (most : ℕ) (before : Log) (shelf : KeptMap) (I : Turn → State → Type 0) (y : Moving) (log : Log) (s : State) : Type 0 where
   then : State
   leads_on : Leads log s then
-  calm : AreCalm log
-  stands : StandsBehind y.desk.peers shelf y.desk.state then
+  moment : IsMoment terms most (before ++ log) y.desk.peers shelf y.desk.state then
   holds : I y.desk.state then
 
 -- the client of the law at a place
@@ -105,7 +105,7 @@ record IsClientAt (s : State) (q : Turn) (i : ℕ) : Type 0 where
   own : Client
   there : client s seat.client.id ≡ Some own
 
-module _ (terms : List Term) (before : Log) (shelf : KeptMap) (I : Turn → State → Type 0) (supplies : Supplies shelf I) (s : State) (obeys : Obeys terms s before) (peers : List Peer) (p q : Turn) (stands : StandsBehind peers shelf p s) (holds : I p s) where
+module _ (terms : List Term) (most : ℕ) (before : Log) (shelf : KeptMap) (I : Turn → State → Type 0) (supplies : Supplies terms most shelf I) (s : State) (obeys : Obeys terms s before) (peers : List Peer) (p q : Turn) (stands : StandsBehind peers shelf p s) (holds : I p s) where
   sound : IsSoundTurn s
   sound = sound_turns terms s before obeys
 
@@ -127,14 +127,14 @@ module _ (terms : List Term) (before : Log) (shelf : KeptMap) (I : Turn → Stat
             there = find_at stands.number p.name.items seat.client.id i p.seats.items s.clients one.client turn.steps.shows.clients (is_at i p.seats.items seat turn.steps.order (before_it ∙ here)) one.there;
           }
 
-  sound_behind : (hs : Log) (t : State) → AreCalm hs → Leads hs s t → IsSoundTurn t
-  sound_behind hs t calm on = sound_turns terms t (before ++ hs) (obeys_along terms hs before s t calm obeys on)
+  module _ (x y : Moving) (log : Log) (i : ℕ) (its_peers : x.desk.peers ≡ peers) (brief : IsBrief most (before ++ log)) (well : y.desk.state.is_astray ≡ false) where
+    moment : IsMoment terms most before x.desk.peers shelf p s
+    moment = record { obeys = obeys; brief = brief_before most before log brief; stands = subst (λ (ps : List Peer). StandsBehind ps shelf p s) (sym its_peers) stands }
 
-  module _ (x y : Moving) (log : Log) (i : ℕ) (same : x.desk.state ≡ q) (its_peers : x.desk.peers ≡ peers) where
-    decided : (due : Decision) → FirstDueInMemory shelf p.awake.items p x.desk.state (Some (i, Decide due)) → IsClientAt s x.desk.state i → TakesOne i (Decide due) x log y → Stepped shelf I y log s
+    decided : (due : Decision) → FirstDueInMemory shelf p.awake.items p x.desk.state (Some (i, Decide due)) → IsClientAt s x.desk.state i → TakesOne i (Decide due) x log y → Stepped terms most before shelf I y log s
     decided due first at one =
         let next : IsNext shelf i due p x.desk.state s at.seat at.own = record { first = first; here = at.here; there = at.there } in
-        let rests : RestsOn i due p x.desk.state s at.seat at.own = supplies.rests i due p x.desk.state s at.seat at.own holds next in
+        let rests : RestsOn i due p x.desk.state s at.seat at.own = supplies.rests before i due p x y log s at.seat at.own moment holds next one well in
         let who : who_at i x.desk.state ≡ Some (at.seat.client.id, at.seat.index) = ap (λ (o : Option Seat). option_map (λ (z : Seat). (z.client.id, z.index)) o) at.here in
         let is : TakesDueOf (Some (at.seat.client.id, at.seat.index)) i (Decide due) x.desk y.desk = subst (λ (o : Option (ℕ × ℕ)). TakesDueOf o i (Decide due) x.desk y.desk) who one.is in
         let took : IsTaken i due x.desk.state (parts y.desk.state) = subst (λ (d : Decision). IsTaken i d x.desk.state (parts y.desk.state)) rests.affords is.0 in
@@ -143,40 +143,52 @@ module _ (terms : List Term) (before : Log) (shelf : KeptMap) (I : Turn → Stat
         let on : (later : ℕ → ℕ) × TakesAsTheLaw later i due peers x.desk.state s at.seat at.own took.between =
         leads stands.number peers shelf i due p x.desk.state s at.seat at.own took.between stands.stands sound next rests took.takes in
         let calm : AreCalm (row_notes (row_in_way due i x.desk.state) ++ Noted (Taken at.seat.client.id at.seat.index due) ∷ []) = noted_calm (row_in_way due i x.desk.state) (Noted (Taken at.seat.client.id at.seat.index due)) refl in
-        let kept : I y.desk.state (behind_taken at.seat.client.id due s) × IsBounded y.desk.state.cache = supplies.taken i due x y p log s at.seat at.own holds next one in
         let behind : IsBehind x.desk.state y.desk.state took.between = record { is = took.is; rest = ap (λ (d : Desk). d.state) one.rest } in
+        let leads_on : Leads log s (behind_taken at.seat.client.id due s) = subst (λ (hs : Log). Leads hs s (behind_taken at.seat.client.id due s)) (sym log_is) on.1.leads in
+        let obeys_then : Obeys terms (behind_taken at.seat.client.id due s) (before ++ log) =
+        obeys_along terms log before s (behind_taken at.seat.client.id due s) (subst (λ (hs : Log). AreCalm hs) (sym log_is) calm) obeys leads_on in
+        let moment_then : IsMoment terms most (before ++ log) y.desk.peers shelf y.desk.state (behind_taken at.seat.client.id due s) =
+        record {
+          obeys = obeys_then;
+          brief = brief;
+          stands = subst (λ (ps : List Peer). StandsBehind ps shelf y.desk.state (behind_taken at.seat.client.id due s)) (sym (is.1 ∙ its_peers))
+              (stand stands.number peers shelf i due p x.desk.state y.desk.state s at.seat at.own took.between stands.stands sound next rests took.takes behind one.bounded (sound_turns terms (behind_taken at.seat.client.id due s) (before ++ log) obeys_then));
+        } in
         record {
           then = behind_taken at.seat.client.id due s;
-          leads_on = subst (λ (hs : Log). Leads hs s (behind_taken at.seat.client.id due s)) (sym log_is) on.1.leads;
-          calm = subst (λ (hs : Log). AreCalm hs) (sym log_is) calm;
-          stands = subst (λ (ps : List Peer). StandsBehind ps shelf y.desk.state (behind_taken at.seat.client.id due s)) (sym (is.1 ∙ its_peers))
-              (stand stands.number peers shelf i due p x.desk.state y.desk.state s at.seat at.own took.between stands.stands sound next rests took.takes behind kept.1
-              (sound_behind (row_notes (row_in_way due i x.desk.state) ++ Noted (Taken at.seat.client.id at.seat.index due) ∷ []) (behind_taken at.seat.client.id due s) calm on.1.leads));
-          holds = kept.0;
+          leads_on = leads_on;
+          moment = moment_then;
+          holds = supplies.taken before i due p x y log s at.seat at.own moment holds next one well moment_then;
         }
 
-    cut_off : (cause : Cause) → FirstDueInMemory shelf p.awake.items p x.desk.state (Some (i, CutOff cause)) → IsClientAt s x.desk.state i → TakesOne i (CutOff cause) x log y → Stepped shelf I y log s
+    cut_off : (cause : Cause) → FirstDueInMemory shelf p.awake.items p x.desk.state (Some (i, CutOff cause)) → IsClientAt s x.desk.state i → TakesOne i (CutOff cause) x log y → Stepped terms most before shelf I y log s
     cut_off cause first at one =
         let next : IsCutNext shelf i cause p x.desk.state s at.seat at.own = record { first = first; here = at.here; there = at.there } in
         let who : who_at i x.desk.state ≡ Some (at.seat.client.id, at.seat.index) = ap (λ (o : Option Seat). option_map (λ (z : Seat). (z.client.id, z.index)) o) at.here in
         let is : sides y.desk ≡ closed_client i (sides x.desk) = subst (λ (o : Option (ℕ × ℕ)). TakesDueOf o i (CutOff cause) x.desk y.desk) who one.is in
         let log_is : log ≡ Noted (Cut at.seat.client.id cause) ∷ [] = one.log_is ∙ ap (λ (o : Option (ℕ × ℕ)). due_log_of o i (CutOff cause) x.desk.state) who in
-        let orderly : MayClose s = supplies.closes p s holds in
+        let orderly : MayClose s = supplies.closes before x.desk.peers p s moment holds in
         let on : CutsAsTheLaw i cause peers x.desk.state s at.seat = cuts_lead stands.number peers shelf i cause p x.desk.state s at.seat at.own stands.stands sound orderly next in
-        let kept : I y.desk.state (behind_cut at.seat.client.id s) × IsBounded y.desk.state.cache = supplies.cut i cause x y p log s at.seat at.own holds next one in
         let behind : IsBehindCut i peers y.desk.peers x.desk.state y.desk.state =
         record { is = is ∙ ap (λ (ps : List Peer). closed_client i (let z : Sides = record { parts = parts x.desk.state; peers = ps } in z)) its_peers; rest = ap (λ (d : Desk). d.state) one.rest } in
+        let leads_on : Leads log s (behind_cut at.seat.client.id s) = subst (λ (hs : Log). Leads hs s (behind_cut at.seat.client.id s)) (sym log_is) on.leads in
+        let obeys_then : Obeys terms (behind_cut at.seat.client.id s) (before ++ log) = obeys_along terms log before s (behind_cut at.seat.client.id s) (subst (λ (hs : Log). AreCalm hs) (sym log_is) (refl, tt)) obeys leads_on in
+        let moment_then : IsMoment terms most (before ++ log) y.desk.peers shelf y.desk.state (behind_cut at.seat.client.id s) =
+        record {
+          obeys = obeys_then;
+          brief = brief;
+          stands =
+              cut_stand stands.number peers y.desk.peers shelf i cause p x.desk.state y.desk.state s at.seat at.own stands.stands sound orderly next behind one.bounded
+              (sound_turns terms (behind_cut at.seat.client.id s) (before ++ log) obeys_then);
+        } in
         record {
           then = behind_cut at.seat.client.id s;
-          leads_on = subst (λ (hs : Log). Leads hs s (behind_cut at.seat.client.id s)) (sym log_is) on.leads;
-          calm = subst (λ (hs : Log). AreCalm hs) (sym log_is) (refl, tt);
-          stands =
-              cut_stand stands.number peers y.desk.peers shelf i cause p x.desk.state y.desk.state s at.seat at.own stands.stands sound orderly next behind kept.1
-              (sound_behind (Noted (Cut at.seat.client.id cause) ∷ []) (behind_cut at.seat.client.id s) (refl, tt) on.leads);
-          holds = kept.0;
+          leads_on = leads_on;
+          moment = moment_then;
+          holds = supplies.cut before i cause p x y log s at.seat at.own moment holds next one well moment_then;
         }
 
-    stepped : (due : SeatDue) → FirstDueInMemory shelf p.awake.items p x.desk.state (Some (i, due)) → IsClientAt s x.desk.state i → TakesOne i due x log y → Stepped shelf I y log s
+    stepped : (due : SeatDue) → FirstDueInMemory shelf p.awake.items p x.desk.state (Some (i, due)) → IsClientAt s x.desk.state i → TakesOne i due x log y → Stepped terms most before shelf I y log s
     stepped (Decide d) first at one = decided d first at one
     stepped (CutOff cause) first at one = cut_off cause first at one
 
@@ -188,31 +200,41 @@ Then more shelf x found log y any due = elim due [
   | Some d ↦ (next : Moving) × (first : Log) × (rest : Log) × (later : Bool) × (log ≡ first ++ rest) × TakesOne d.0 d.1 (with_state found x) first next × Decides more shelf next rest y later × (any ≡ true)
 ]
 
-abbrev Onward : List Term → KeptMap → (Turn → State → Type 0) → ℕ → Moving → Type 0
-Onward terms shelf I more y = (before : Log) (x : Moving) (log : Log) (any : Bool) (s : State) → Obeys terms s before → StandsBehind x.desk.peers shelf x.desk.state s → I x.desk.state s → Decides more shelf x log y any → AllDecided shelf I y log s
+abbrev Onward : List Term → ℕ → KeptMap → (Turn → State → Type 0) → ℕ → Moving → Type 0
+Onward terms most shelf I more y = (before : Log) (x : Moving) (log : Log) (any : Bool) (s : State) → Obeys terms s before → IsBrief most (before ++ log) → StandsBehind x.desk.peers shelf x.desk.state s → I x.desk.state s → Decides more shelf x log y any → AllDecided shelf I y log s
 
 -- one alone
-step_on : (terms : List Term) (shelf : KeptMap) (I : Turn → State → Type 0) → Supplies shelf I → (before : Log) (x : Moving) (s : State) → Obeys terms s before → StandsBehind x.desk.peers shelf x.desk.state s → I x.desk.state s → (found : Turn) (d : ℕ × SeatDue) (next : Moving) (one : Log)
-    → FirstDueInMemory shelf x.desk.state.awake.items x.desk.state found (Some d) → TakesOne d.0 d.1 (with_state found x) one next → Stepped shelf I next one s
-step_on terms shelf I supplies before x s obeys stands holds found d next one given takes =
-    stepped terms before shelf I supplies s obeys x.desk.peers x.desk.state found stands holds (with_state found x) next one d.0 refl refl d.1 given (client_at terms before shelf I supplies s obeys x.desk.peers x.desk.state found stands holds d.0 d.1 given) takes
+step_on : (terms : List Term) (most : ℕ) (shelf : KeptMap) (I : Turn → State → Type 0) → Supplies terms most shelf I → (before : Log) (x : Moving) (s : State) → Obeys terms s before → StandsBehind x.desk.peers shelf x.desk.state s → I x.desk.state s → (found : Turn) (d : ℕ × SeatDue) (next : Moving) (one : Log)
+    → FirstDueInMemory shelf x.desk.state.awake.items x.desk.state found (Some d) → TakesOne d.0 d.1 (with_state found x) one next → IsBrief most (before ++ one) → next.desk.state.is_astray ≡ false → Stepped terms most before shelf I next one s
+step_on terms most shelf I supplies before x s obeys stands holds found d next one given takes brief well =
+    stepped terms most before shelf I supplies s obeys x.desk.peers x.desk.state found stands holds (with_state found x) next one d.0 refl brief well d.1 given (client_at terms most before shelf I supplies s obeys x.desk.peers x.desk.state found stands holds d.0 d.1 given) takes
 
-pub decides_one : (terms : List Term) (shelf : KeptMap) (I : Turn → State → Type 0) → Supplies shelf I → (before : Log) (x : Moving) (s : State) → Obeys terms s before → StandsBehind x.desk.peers shelf x.desk.state s → I x.desk.state s → (found : Turn) (d : ℕ × SeatDue) (next : Moving) (one : Log)
-    → FirstDueInMemory shelf x.desk.state.awake.items x.desk.state found (Some d) → TakesOne d.0 d.1 (with_state found x) one next → AllDecided shelf I next one s
-decides_one terms shelf I supplies before x s obeys stands holds found d next one given takes =
-    let step : Stepped shelf I next one s = step_on terms shelf I supplies before x s obeys stands holds found d next one given takes in record { then = step.then; leads = step.leads_on; stands = step.stands; holds = step.holds }
+pub decides_one : (terms : List Term) (most : ℕ) (shelf : KeptMap) (I : Turn → State → Type 0) → Supplies terms most shelf I → (before : Log) (x : Moving) (s : State) → Obeys terms s before → StandsBehind x.desk.peers shelf x.desk.state s → I x.desk.state s → (found : Turn) (d : ℕ × SeatDue) (next : Moving) (one : Log)
+    → FirstDueInMemory shelf x.desk.state.awake.items x.desk.state found (Some d) → TakesOne d.0 d.1 (with_state found x) one next → IsBrief most (before ++ one) → next.desk.state.is_astray ≡ false → AllDecided shelf I next one s
+decides_one terms most shelf I supplies before x s obeys stands holds found d next one given takes brief well =
+    let step : Stepped terms most before shelf I next one s = step_on terms most shelf I supplies before x s obeys stands holds found d next one given takes brief well in
+    record { then = step.then; leads = step.leads_on; stands = step.moment.stands; holds = step.holds }
 
-one_more : (terms : List Term) (shelf : KeptMap) (I : Turn → State → Type 0) (more : ℕ) (y : Moving) → Supplies shelf I → y.desk.state.is_astray ≡ false → Onward terms shelf I more y → (before : Log) (x : Moving) (log : Log) (any : Bool) (s : State) → Obeys terms s before → StandsBehind x.desk.peers shelf x.desk.state s → I x.desk.state s
-    → (found : Turn) (due : Option (ℕ × SeatDue)) → FirstDue shelf x.desk.state.awake.items x.desk.state found due → Then more shelf x found log y any due → AllDecided shelf I y log s
-one_more terms shelf I more y supplies well onward before x log any s obeys stands holds found None looked here =
-    let given : FirstDueInMemory shelf x.desk.state.awake.items x.desk.state found None = first_given shelf x.desk.state.awake.items x.desk.state found None looked (sym (ap (λ (z : Moving). z.desk.state.is_astray) here.1) ∙ well) in
+-- nothing is found
+pub decides_none : (terms : List Term) (most : ℕ) (shelf : KeptMap) (I : Turn → State → Type 0) → Supplies terms most shelf I → (before : Log) (x : Moving) (s : State) → Obeys terms s before → IsBrief most before → StandsBehind x.desk.peers shelf x.desk.state s → I x.desk.state s → (found : Turn)
+    → FirstDueInMemory shelf x.desk.state.awake.items x.desk.state found None → found.is_astray ≡ false → NoneIsNext x.desk.peers shelf found s × I found s
+decides_none terms most shelf I supplies before x s obeys brief stands holds found given well =
     let none : NoneIsNext x.desk.peers shelf found s = none_next stands.number x.desk.peers shelf x.desk.state found s stands.stands (sound_turns terms s before obeys) given in
+    (none, supplies.none before x.desk.peers x.desk.state found s (record { obeys = obeys; brief = brief; stands = stands }) holds given well (record { obeys = obeys; brief = brief; stands = none.behind }))
+
+one_more : (terms : List Term) (most : ℕ) (shelf : KeptMap) (I : Turn → State → Type 0) (more : ℕ) (y : Moving) → Supplies terms most shelf I → y.desk.state.is_astray ≡ false → Onward terms most shelf I more y → (before : Log) (x : Moving) (log : Log) (any : Bool) (s : State) → Obeys terms s before → IsBrief most (before ++ log) → StandsBehind x.desk.peers shelf x.desk.state s → I x.desk.state s
+    → (found : Turn) (due : Option (ℕ × SeatDue)) → FirstDue shelf x.desk.state.awake.items x.desk.state found due → Then more shelf x found log y any due → AllDecided shelf I y log s
+one_more terms most shelf I more y supplies well onward before x log any s obeys brief stands holds found None looked here =
+    let found_well : found.is_astray ≡ false = sym (ap (λ (z : Moving). z.desk.state.is_astray) here.1) ∙ well in
+    let none : NoneIsNext x.desk.peers shelf found s × I found s =
+    decides_none terms most shelf I supplies before x s obeys (brief_before most before log brief) stands holds found (first_given shelf x.desk.state.awake.items x.desk.state found None looked found_well) found_well in
     subst (λ (z : Moving). AllDecided shelf I z log s) (sym here.1)
-    (subst (λ (hs : Log). AllDecided shelf I (with_state found x) hs s) (sym here.0) (record { then = s; leads = refl; stands = none.behind; holds = supplies.none x.desk.state found s holds given }))
-one_more terms shelf I more y supplies well onward before x log any s obeys stands holds found (Some d) looked (next, one, others, later, is, takes, more_of, any_is) =
-    let step : Stepped shelf I next one s = step_on terms shelf I supplies before x s obeys stands holds found d next one (found_given more shelf x next y one others later found d looked takes more_of well) takes in
-    let behind : Obeys terms step.then (before ++ one) = obeys_along terms one before s step.then step.calm obeys step.leads_on in
-    let last : AllDecided shelf I y others step.then = onward (before ++ one) next others later step.then behind step.stands step.holds more_of in
+    (subst (λ (hs : Log). AllDecided shelf I (with_state found x) hs s) (sym here.0) (record { then = s; leads = refl; stands = none.0.behind; holds = none.1 }))
+one_more terms most shelf I more y supplies well onward before x log any s obeys brief stands holds found (Some d) looked (next, one, others, later, is, takes, more_of, any_is) =
+    let all : IsBrief most (before ++ (one ++ others)) = brief_as most before log (one ++ others) is brief in
+    let step : Stepped terms most before shelf I next one s =
+    step_on terms most shelf I supplies before x s obeys stands holds found d next one (found_given more shelf x next y one others later found d looked takes more_of well) takes (brief_front most before one others all) (decided_well more shelf next y others later more_of well) in
+    let last : AllDecided shelf I y others step.then = onward (before ++ one) next others later step.then step.moment.obeys (brief_then most before one others all) step.moment.stands step.holds more_of in
     record {
       then = last.then;
       leads = subst (λ (hs : Log). Leads hs s last.then) (sym is) (lead_joined one others s step.then last.then step.leads_on last.leads);
@@ -220,11 +242,16 @@ one_more terms shelf I more y supplies well onward before x log any s obeys stan
       holds = last.holds;
     }
 
-decides_on : (terms : List Term) (shelf : KeptMap) (I : Turn → State → Type 0) (more : ℕ) (y : Moving) → Supplies shelf I → y.desk.state.is_astray ≡ false → Onward terms shelf I more y
+decides_on : (terms : List Term) (most : ℕ) (shelf : KeptMap) (I : Turn → State → Type 0) (more : ℕ) (y : Moving) → Supplies terms most shelf I → y.desk.state.is_astray ≡ false → Onward terms most shelf I more y
 unfolding Decides
-decides_on terms shelf I zero y supplies well before x log any s obeys stands holds it = absurd (let both : true ≡ false = sym (ap (λ (z : Moving). z.desk.state.is_astray) it.1) ∙ well in cc both)
-decides_on terms shelf I (suc more) y supplies well before x log any s obeys stands holds (found, due, first, rest) =
-    one_more terms shelf I more y supplies well (decides_on terms shelf I more y supplies well) before x log any s obeys stands holds found due first rest
+decides_on terms most shelf I zero y supplies well before x log any s obeys brief stands holds it = absurd (let both : true ≡ false = sym (ap (λ (z : Moving). z.desk.state.is_astray) it.1) ∙ well in cc both)
+decides_on terms most shelf I (suc more) y supplies well before x log any s obeys brief stands holds (found, due, first, rest) =
+    one_more terms most shelf I more y supplies well (decides_on terms most shelf I more y supplies well) before x log any s obeys brief stands holds found due first rest
+
+-- whatever holds from one to the next
+pub decides_all : (terms : List Term) (most : ℕ) (before : Log) (shelf : KeptMap) (I : Turn → State → Type 0) (more : ℕ) (x y : Moving) (log : Log) (any : Bool) (s : State) → Supplies terms most shelf I → Obeys terms s before → IsBrief most (before ++ log) → StandsBehind x.desk.peers shelf x.desk.state s → I x.desk.state s → Decides more shelf x log y any
+    → y.desk.state.is_astray ≡ false → AllDecided shelf I y log s
+decides_all terms most before shelf I more x y log any s supplies obeys brief stands holds it well = decides_on terms most shelf I more y supplies well before x log any s obeys brief stands holds it
 
 pub all_lead : AllLead
-all_lead terms before shelf test more x y log any s supplies obeys stands holds it well = decides_on terms shelf (Passes test) more y supplies well before x log any s obeys stands holds it
+all_lead terms most before shelf test more x y log any s supplies obeys brief stands holds it well = decides_all terms most before shelf (Passes test) more x y log any s supplies obeys brief stands holds it well

@@ -250,5 +250,5 @@ pub one_refused : DialsMayBeRefused
 one_refused terms log number p x z steps hs s t e stands reaches obeys may shows waits without = may_be_refused terms log number p x z steps hs s t e stands reaches obeys may shows waits without
 
 pub all_refused : AllDialsMayBeRefused
-all_refused terms before number p x s obeys stands without steps hs z t e affords reaches leads may shows waits =
-    one_refused terms (before ++ hs) number p x z steps hs s t e stands reaches (comes_by terms hs before s t (enough_of s hs affords) obeys leads).obeys may shows waits (without steps hs z t e affords reaches leads may shows waits)
+all_refused terms most before number p x s obeys stands without steps hs z t e affords brief reaches leads may shows waits =
+    one_refused terms (before ++ hs) number p x z steps hs s t e stands reaches (comes_by terms hs before s t (enough_of s hs affords) obeys leads).obeys may shows waits (without steps hs z t e affords brief reaches leads may shows waits)

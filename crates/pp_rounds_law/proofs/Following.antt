@@ -1,5 +1,5 @@
 -- Where nothing is due, the law goes on without a word: what nobody sees is dropped, asks that bring nothing are given up, and followers ask.
-use Rattle.std.proofs.Common.{◌≡◌, ◌≤◌, refl, sym, subst, ap, ◌∙◌, ℕ, true, false, not, length, List, [], ◌++◌, Option, None, arith}
+use Rattle.std.proofs.Common.{◌≡◌, ◌≤◌, refl, sym, subst, ap, ◌∙◌, ℕ, true, false, not, length, List, [], ◌++◌, append-nil, Option, None, arith}
 use Rattle.std.specs.Prelude.{is_some, vec_capacity}
 use Rattle.pp_cache.specs.Bounds.{IsBounded}
 use Rattle.pp_cache.specs.Memory.{Memory}
@@ -57,7 +57,7 @@ use Rattle.pp_rounds_law.proofs.Quiet.{carries_filled, carries_given_up, carries
 use Rattle.pp_rounds_law.proofs.Ready.{awake_on, ready_on, sourced}
 use Rattle.pp_rounds_law.proofs.Room.{once_each, room_for}
 use Rattle.pp_rounds_law.proofs.Went.{as_many}
-use Rattle.pp_rounds_law.specs.Coming.{ComesTo}
+use Rattle.pp_rounds_law.specs.Coming.{ComesTo, IsBrief}
 use Rattle.pp_rounds_law.specs.Stands.{StandsAmid}
 use Rattle.pp_rounds_law.specs.Steps.{FollowingIsTheLaws, HasFollowed}
 use Rattle.pp_rounds_law.specs.Supplies.{MayAskMore, RoundSupplies, followed, without_useless}
@@ -101,8 +101,8 @@ few_seats a b c one two few = omega (arith, one, two, few)
 
 -- ---- of the turn
 
-module _ (terms : List Term) (before : Log) (number : ℕ → ℕ) (shelf : KeptMap) (I : Turn → State → Type 0) (x : Moving) (seen given asked : Desk) (s : State) (supplies : RoundSupplies shelf I) (obeys : Obeys terms s before) (amid : StandsAmid number shelf x s) (holds : I x.desk.state s)
-    (at : s.phase ≡ Deciding) (none : first_due s ≡ None) (drops : Becomes without_unseen x.desk seen) (gives : GivesUp seen given) (fills : Fills given asked) where
+module _ (terms : List Term) (most : ℕ) (before : Log) (number : ℕ → ℕ) (shelf : KeptMap) (I : Turn → State → Type 0) (x : Moving) (seen given asked : Desk) (s : State) (supplies : RoundSupplies terms most shelf I) (obeys : Obeys terms s before) (brief : IsBrief most before) (amid : StandsAmid number shelf x s) (holds : I x.desk.state s)
+    (at : s.phase ≡ Deciding) (none : first_due s ≡ None) (drops : Becomes without_unseen x.desk seen) (gives : GivesUp seen given) (fills : Fills given asked) (well : asked.state.is_astray ≡ false) where
   abbrev name : List ℕ
   name = x.desk.state.name.items
 
@@ -117,7 +117,7 @@ module _ (terms : List Term) (before : Log) (number : ℕ → ℕ) (shelf : Kept
 
   -- what nobody sees
   shows : ShowsSides number name (sides x.desk) u
-  shows = record { steps = steps_in Connecting s.made_room_for number name none_leaves x.desk.peers (parts x.desk.state) s amid.turn.steps; may = may_close_in Connecting s (supplies.decides.closes x.desk.state s holds) }
+  shows = record { steps = steps_in Connecting s.made_room_for number name none_leaves x.desk.peers (parts x.desk.state) s amid.turn.steps; may = may_close_in Connecting s (supplies.closes before number x s obeys brief amid holds) }
 
   follow : AllFollow x.desk.state.cache x.desk.state.seats.items
   follow i seat here going = (amid.ready i seat here going).follows
@@ -125,7 +125,7 @@ module _ (terms : List Term) (before : Log) (number : ℕ → ℕ) (shelf : Kept
   tells : Tells (sides x.desk) u
   tells = record {
     following = followers number name x.desk.state.cache u shows.steps.shows.table.table x.desk.state.seats.items u.clients shows.steps.shows.clients follow;
-    counted = λ n k there. supplies.counted x.desk.state s n k holds there;
+    counted = λ n k there. supplies.counted before number x s n k obeys brief amid holds there;
   }
 
   unseen : ShowsSides number name left (drop_unseen u)
@@ -205,7 +205,7 @@ module _ (terms : List Term) (before : Log) (number : ℕ → ℕ) (shelf : Kept
   apart_given = given_apart (drop_unseen u) unseen.may.apart
 
   may_ask : MayAskMore given.state (without_useless s)
-  may_ask = supplies.asks number x seen given s holds amid drops gives
+  may_ask = supplies.asks before number x seen given s obeys brief amid holds at none drops gives
 
   follow_given : AllFollow given.state.cache given.state.seats.items
   follow_given = follow_on (parts x.desk.state) (parts given.state) carried_given follow
@@ -292,9 +292,12 @@ module _ (terms : List Term) (before : Log) (number : ℕ → ℕ) (shelf : Kept
     away = ap (λ (d : Desk). d.turned_away) fills.rest ∙ ap (λ (d : Desk). d.turned_away) gives.rest ∙ ap (λ (d : Desk). d.turned_away) drops.rest ∙ amid.away;
   }
 
+  obeys_then : Obeys terms (followed s) before
+  obeys_then = subst (λ (log : Log). Obeys terms (followed s) log) (append-nil before) comes.obeys
+
   pub has_followed : HasFollowed terms before number shelf I (with_desk asked x) s
-  has_followed = record { comes = comes; phase = ap (λ (o : Frame). o.phase) asked_law; amid = amid_asked; holds = supplies.silent number x seen given asked s holds amid drops gives fills amid_asked sound_then }
+  has_followed = record { comes = comes; phase = ap (λ (o : Frame). o.phase) asked_law; amid = amid_asked; holds = supplies.silent before number x seen given asked s obeys brief amid holds at none drops gives fills obeys_then amid_asked well }
 
 pub following : FollowingIsTheLaws
-following terms before number shelf test x seen given asked s supplies obeys amid holds at none drops gives fills =
-    has_followed terms before number shelf (Passes test) x seen given asked s supplies obeys amid holds at none drops gives fills
+following terms most before number shelf test x seen given asked s supplies obeys brief amid holds at none drops gives fills well =
+    has_followed terms most before number shelf (Passes test) x seen given asked s supplies obeys brief amid holds at none drops gives fills well

@@ -4,9 +4,9 @@ use Rattle.pp_law.specs.State.{State, Term}
 use Rattle.pp_proxy.specs.Moving.{Moving}
 use Rattle.pp_proxy.specs.Rounds.{GoRounds, GoesRound}
 use Rattle.pp_rounds_law.proofs.Astray.{loops_stay, well_before}
-use Rattle.pp_rounds_law.proofs.Coming.{affords_front, affords_then, comes_then}
-use Rattle.pp_rounds_law.proofs.Round.{rounds_end}
-use Rattle.pp_rounds_law.specs.Coming.{Affords, ComesTo}
+use Rattle.pp_rounds_law.proofs.Coming.{affords_front, affords_then, comes_then, brief_as, brief_front, brief_then}
+use Rattle.pp_rounds_law.proofs.Round.{rounds_lead}
+use Rattle.pp_rounds_law.specs.Coming.{Affords, ComesTo, IsBrief}
 use Rattle.pp_rounds_law.specs.Rounds.{EndsRound, HasGoneRound}
 use Rattle.pp_rounds_law.specs.Supplies.{RoundSupplies}
 use Rattle.pp_rounds_law.specs.Decisions.{Passes}
@@ -15,12 +15,12 @@ use Rattle.pp_store.specs.Kept.{KeptMap}
 use Rattle.pp_world.specs.Log.{Log}
 use Rattle.pp_rounds_law.specs.Loops.{LoopsLead, MayGoRound}
 
-module _ (terms : List Term) (shelf : KeptMap) (test : Turn → State → Bool) (supplies : RoundSupplies shelf (Passes test)) where
+module _ (terms : List Term) (most : ℕ) (shelf : KeptMap) (I : Turn → State → Type 0) (supplies : RoundSupplies terms most shelf I) where
   abbrev Gone : Log → Moving → Log → Bool → State → Type 0
-  Gone before y log any s = HasGoneRound terms before shelf (Passes test) y log any s
+  Gone before y log any s = HasGoneRound terms before shelf I y log any s
 
   abbrev Ends : Log → Moving → Log → Bool → State → Type 0
-  Ends before y log any s = EndsRound terms before shelf (Passes test) y log any s
+  Ends before y log any s = EndsRound terms before shelf I y log any s
 
   -- behind no more
   ended : (more : ℕ) (x : Moving) (log : Log) (y : Moving) → GoRounds more shelf false x log y → (log ≡ []) × (y ≡ x)
@@ -47,13 +47,16 @@ module _ (terms : List Term) (shelf : KeptMap) (test : Turn → State → Bool) 
   }
 
   abbrev Onward : ℕ → Type 0
-  Onward more = (before : Log) (x y : Moving) (log : Log) (s : State) → MayGoRound terms before shelf (Passes test) x log s → GoRounds more shelf true x log y → y.desk.state.is_astray ≡ false → Ends before y log false s
+  Onward more = (before : Log) (x y : Moving) (log : Log) (s : State) → MayGoRound terms before shelf I x log s → IsBrief most (before ++ log) → GoRounds more shelf true x log y → y.desk.state.is_astray ≡ false → Ends before y log false s
 
-  step : (more : ℕ) → Onward more → (before : Log) (x y : Moving) (log : Log) (s : State) → MayGoRound terms before shelf (Passes test) x log s → (next : Moving) (first rest : Log) (again : Bool) → log ≡ first ++ rest → GoesRound shelf x first next again → GoRounds more shelf again next rest y
+  step : (more : ℕ) → Onward more → (before : Log) (x y : Moving) (log : Log) (s : State) → MayGoRound terms before shelf I x log s → IsBrief most (before ++ log) → (next : Moving) (first rest : Log) (again : Bool) → log ≡ first ++ rest → GoesRound shelf x first next again → GoRounds more shelf again next rest y
       → y.desk.state.is_astray ≡ false → Ends before y log false s
-  step more onward before x y log s begins next first rest again is round others well =
-      by again refl (rounds_end terms before shelf test x next first again s supplies begins.obeys (affords_front s first rest affords) begins.stands begins.holds begins.at begins.none round next_well)
+  step more onward before x y log s begins brief next first rest again is round others well =
+      by again refl (rounds_lead terms most before shelf I x next first again s supplies begins.obeys (brief_front most before first rest all) (affords_front s first rest affords) begins.stands begins.holds begins.at begins.none round next_well)
     where
+      all : IsBrief most (before ++ (first ++ rest))
+      all = brief_as most before log (first ++ rest) is brief
+
       affords : Affords s (first ++ rest)
       affords = subst (λ (hs : Log). Affords s hs) is begins.affords
 
@@ -74,12 +77,17 @@ module _ (terms : List Term) (shelf : KeptMap) (test : Turn → State → Bool) 
             holds = so.holds;
             at = so.phase;
             none = so.none;
-          }) (subst (λ (c : Bool). GoRounds more shelf c next rest y) any others) well)
+          }) (brief_then most before first rest all) (subst (λ (c : Bool). GoRounds more shelf c next rest y) any others) well)
 
   loop : (more : ℕ) → Onward more
   unfolding GoRounds
-  loop zero before x y log s begins is well = absurd (let both : true ≡ false = sym (ap (λ (z : Moving). z.desk.state.is_astray) is.1) ∙ well in cc both)
-  loop (suc more) before x y log s begins (next, first, rest, again, is, round, others) well = step more (loop more) before x y log s begins next first rest again is round others well
+  loop zero before x y log s begins brief is well = absurd (let both : true ≡ false = sym (ap (λ (z : Moving). z.desk.state.is_astray) is.1) ∙ well in cc both)
+  loop (suc more) before x y log s begins brief (next, first, rest, again, is, round, others) well = step more (loop more) before x y log s begins brief next first rest again is round others well
+
+-- whatever holds from one step to the next
+pub loops_lead : (terms : List Term) (most : ℕ) (before : Log) (shelf : KeptMap) (I : Turn → State → Type 0) (more : ℕ) (x y : Moving) (log : Log) (s : State) → RoundSupplies terms most shelf I → MayGoRound terms before shelf I x log s → IsBrief most (before ++ log) → GoRounds more shelf true x log y → y.desk.state.is_astray ≡ false
+    → EndsRound terms before shelf I y log false s
+loops_lead terms most before shelf I more x y log s supplies begins brief so well = loop terms most shelf I supplies more before x y log s begins brief so well
 
 pub loops : LoopsLead
-loops terms before shelf test more x y log s supplies begins so well = loop terms shelf test supplies more before x y log s begins so well
+loops terms most before shelf test more x y log s supplies begins brief so well = loops_lead terms most before shelf (Passes test) more x y log s supplies begins brief so well

@@ -17,7 +17,6 @@ use Rattle.pp_obeys.proofs.Frames.{Frame, frame}
 use Rattle.pp_obeys.proofs.StaysTurns.{placing-frame}
 use Rattle.pp_obeys.specs.Obeys.{Obeys}
 use Rattle.pp_places.specs.Around.{around, moment_of}
-use Rattle.pp_places_law.proofs.Answered.{answers_all}
 use Rattle.pp_places_law.proofs.Fits.{any_mapped, longer_if}
 use Rattle.pp_places_law.proofs.Links.{counted}
 use Rattle.pp_places_law.specs.Around.{MayPlace, ShowsAround}
@@ -33,11 +32,12 @@ use Rattle.pp_store.specs.Kept.{KeptMap}
 use Rattle.pp_turns_law.specs.Turns.{ShowsTurn}
 use Rattle.pp_world.specs.Log.{Log}
 use Rattle.pp_rounds_law.proofs.Carried.{Carries}
-use Rattle.pp_rounds_law.proofs.Coming.{comes_by, comes_silently, comes_then, enough_of}
+use Rattle.pp_rounds_law.proofs.Coming.{comes_by, comes_silently, comes_then, enough_of, brief_before}
+use Rattle.pp_rounds_law.proofs.Led.{places_lead}
 use Rattle.pp_rounds_law.proofs.Places.{carries_places}
 use Rattle.pp_rounds_law.proofs.Seated.{stays_seated}
 use Rattle.pp_rounds_law.proofs.Ready.{awake_on, ready_on, sourced}
-use Rattle.pp_rounds_law.specs.Coming.{Affords, ComesTo}
+use Rattle.pp_rounds_law.specs.Coming.{Affords, ComesTo, IsBrief}
 use Rattle.pp_rounds_law.specs.Stands.{StandsAmid}
 use Rattle.pp_rounds_law.specs.Steps.{HavePlacesNow, PlacesInARound}
 use Rattle.pp_rounds_law.specs.Supplies.{RoundSupplies}
@@ -66,8 +66,8 @@ given_conn s sound n k there =
     let found : IsIn k s.conns × (is_conn n k ≡ true) = in_find (is_conn n) k s.conns there in
     subst (λ (m : ℕ). m ≤ s.top) (is_same k.number n found.1) (sound.numbers.conns_given k found.0)
 
-module _ (terms : List Term) (before : Log) (number : ℕ → ℕ) (shelf : KeptMap) (I : Turn → State → Type 0) (x y : Moving) (log : Log) (s : State) (supplies : RoundSupplies shelf I) (obeys : Obeys terms s before) (amid : StandsAmid number shelf x s) (holds : I x.desk.state s) (affords : Affords s log)
-    (at : s.phase ≡ Connecting) (closed : has_closings s ≡ false) (places : Places x log y) where
+module _ (terms : List Term) (most : ℕ) (before : Log) (number : ℕ → ℕ) (shelf : KeptMap) (I : Turn → State → Type 0) (x y : Moving) (log : Log) (s : State) (supplies : RoundSupplies terms most shelf I) (obeys : Obeys terms s before) (brief : IsBrief most (before ++ log)) (amid : StandsAmid number shelf x s) (holds : I x.desk.state s) (affords : Affords s log)
+    (at : s.phase ≡ Connecting) (closed : has_closings s ≡ false) (places : Places x log y) (well : y.desk.state.is_astray ≡ false) where
   abbrev p : Turn
   p = x.desk.state
 
@@ -93,7 +93,9 @@ module _ (terms : List Term) (before : Log) (number : ℕ → ℕ) (shelf : Kept
   may = record { connecting = record { at = at; none = amid.none }; going = amid.going; closed = closed; apart = λ n. sound.apart.conns n; given = given_conn s sound }
 
   led : AreLed number p log (around y.desk y.links y.top) s
-  led = answers_all number p (around x.desk x.links x.top) s shows may 65536 log (around y.desk y.links y.top) (supplies.dials number x s holds shows may) places.is
+  led =
+      places_lead terms most before number p (around x.desk x.links x.top) s 65536 log (around y.desk y.links y.top) obeys (record { shows = shows; is = refl; ready = amid.ready; awake = amid.awake }) may affords brief
+      (supplies.dials before number x s obeys (brief_before most before log brief) amid holds shows may) places.is
 
   state_is : record q { seats = p.seats; flow = p.flow; cache = p.cache; refused = p.refused; is_astray = p.is_astray } ≡ p
   state_is = ap (λ (d : Desk). d.state) places.rest
@@ -170,11 +172,11 @@ module _ (terms : List Term) (before : Log) (number : ℕ → ℕ) (shelf : Kept
       phase = ap (λ (o : Frame). o.phase) again;
       closed = nobody;
       amid = amid_then;
-      holds = supplies.placed number x y log s led.state holds amid places led.leads have.done amid_then sound_then;
+      holds = supplies.placed before number x y log s led.state obeys (brief_before most before log brief) amid holds at closed places led.leads have.done comes.obeys brief amid_then well;
     }
 
-  pub places_end : q.is_astray ≡ false → HavePlacesNow terms before number shelf I y log s
-  places_end well = have_places (led.ends well)
+  pub places_end : HavePlacesNow terms before number shelf I y log s
+  places_end = have_places (led.ends well)
 
 pub places_led : PlacesInARound
-places_led terms before number shelf test x y log s supplies obeys amid holds affords at closed places well = places_end terms before number shelf (Passes test) x y log s supplies obeys amid holds affords at closed places well
+places_led terms most before number shelf test x y log s supplies obeys brief amid holds affords at closed places well = places_end terms most before number shelf (Passes test) x y log s supplies obeys brief amid holds affords at closed places well

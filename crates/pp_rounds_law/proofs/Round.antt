@@ -9,6 +9,7 @@ use Rattle.pp_law.specs.Phases.{has_closings}
 use Rattle.pp_law.specs.State.{State, Phase, Term, Deciding, DecidingAgain}
 use Rattle.pp_links.specs.Links.{Link}
 use Rattle.pp_obeys.specs.Obeys.{Obeys}
+use Rattle.pp_places.specs.Around.{around, moment_of}
 use Rattle.pp_proxy.specs.Deciding.{Decides, DecidesAll, turned_links, turned_log}
 use Rattle.pp_proxy.specs.Moving.{Moving, moving, with_desk}
 use Rattle.pp_proxy.specs.Rounds.{GoesRound}
@@ -16,13 +17,13 @@ use Rattle.pp_rounds_law.specs.Decisions.{Passes}
 use Rattle.pp_state.specs.declared.state.State.{State as Turn}
 use Rattle.pp_store.specs.Kept.{KeptMap}
 use Rattle.pp_world.specs.Log.{Log}
-use Rattle.pp_rounds_law.proofs.Astray.{all_stay, well_before}
+use Rattle.pp_rounds_law.proofs.Astray.{all_stay, closings_stay, places_stay, well_before}
 use Rattle.pp_rounds_law.proofs.Closing.{has_closed}
-use Rattle.pp_rounds_law.proofs.Coming.{affords_front, affords_then, comes_then}
+use Rattle.pp_rounds_law.proofs.Coming.{affords_front, affords_then, comes_then, brief_as, brief_before, brief_front, brief_then}
 use Rattle.pp_rounds_law.proofs.Decided.{decides_round}
 use Rattle.pp_rounds_law.proofs.Following.{has_followed}
 use Rattle.pp_rounds_law.proofs.Placing.{places_end}
-use Rattle.pp_rounds_law.specs.Coming.{Affords, ComesTo}
+use Rattle.pp_rounds_law.specs.Coming.{Affords, ComesTo, IsBrief}
 use Rattle.pp_rounds_law.specs.InRounds.{AreDecided, phase_behind}
 use Rattle.pp_rounds_law.specs.Rounds.{EndsRound, RoundsEnd, RoundsLead}
 use Rattle.pp_rounds_law.specs.Stands.{StandsInRound}
@@ -50,7 +51,7 @@ turned_none shelf x log y any away all =
 
 -- ---- all of it
 
-module _ (terms : List Term) (before : Log) (shelf : KeptMap) (I : Turn → State → Type 0) (x y : Moving) (log : Log) (any : Bool) (s : State) (supplies : RoundSupplies shelf I) (obeys : Obeys terms s before) (affords : Affords s log) (stands : StandsInRound shelf x s) (holds : I x.desk.state s)
+module _ (terms : List Term) (most : ℕ) (before : Log) (shelf : KeptMap) (I : Turn → State → Type 0) (x y : Moving) (log : Log) (any : Bool) (s : State) (supplies : RoundSupplies terms most shelf I) (obeys : Obeys terms s before) (brief : IsBrief most (before ++ log)) (affords : Affords s log) (stands : StandsInRound shelf x s) (holds : I x.desk.state s)
     (at : s.phase ≡ Deciding) (none : first_due s ≡ None) (round : GoesRound shelf x log y any) (well : y.desk.state.is_astray ≡ false) where
   abbrev number : ℕ → ℕ
   number = stands.number
@@ -58,17 +59,36 @@ module _ (terms : List Term) (before : Log) (shelf : KeptMap) (I : Turn → Stat
   abbrev asked : Moving
   asked = with_desk round.asked x
 
+  -- each step left this life as it was, since none behind it brings it back
+  placed_well : round.placed.desk.state.is_astray ≡ false
+  placed_well = well_before round.placed.desk.state.is_astray y.desk.state.is_astray (all_stay shelf round.placed y round.deciding any round.decides) well
+
+  closed_well : round.closed.desk.state.is_astray ≡ false
+  closed_well =
+      well_before round.closed.desk.state.is_astray round.placed.desk.state.is_astray
+      (places_stay 65536 (moment_of round.closed.desk.state) None (around round.closed.desk round.closed.links round.closed.top) (around round.placed.desk round.placed.links round.placed.top) round.placing round.places.is) placed_well
+
+  asked_well : round.asked.state.is_astray ≡ false
+  asked_well = well_before round.asked.state.is_astray round.closed.desk.state.is_astray (closings_stay asked round.closed round.closing round.closes) closed_well
+
+  log_is : log ≡ round.closing ++ (round.placing ++ round.deciding)
+  log_is = round.log_is ∙ append_assoc round.closing round.placing round.deciding
+
+  brief_all : IsBrief most ((before ++ []) ++ (round.closing ++ (round.placing ++ round.deciding)))
+  brief_all = brief_then most before [] (round.closing ++ (round.placing ++ round.deciding)) (brief_as most before log (round.closing ++ (round.placing ++ round.deciding)) log_is brief)
+
   silent : HasFollowed terms before number shelf I asked s
-  silent = has_followed terms before number shelf I x round.seen round.given round.asked s supplies obeys stands.amid holds at none round.drops round.gives round.fills
+  silent = has_followed terms most before number shelf I x round.seen round.given round.asked s supplies obeys (brief_before most before log brief) stands.amid holds at none round.drops round.gives round.fills asked_well
 
   closed : HasClosed terms (before ++ []) number shelf I round.closed round.closing (followed s)
-  closed = has_closed terms (before ++ []) number shelf I asked round.closed round.closing (followed s) supplies silent.comes.obeys silent.amid silent.holds silent.phase round.closes
+  closed = has_closed terms most (before ++ []) number shelf I asked round.closed round.closing (followed s) supplies silent.comes.obeys (brief_front most (before ++ []) round.closing (round.placing ++ round.deciding) brief_all) silent.amid silent.holds silent.phase round.closes closed_well
 
   abbrev behind_closings : Log
   behind_closings = (before ++ []) ++ round.closing
 
-  log_is : log ≡ round.closing ++ (round.placing ++ round.deciding)
-  log_is = round.log_is ∙ append_assoc round.closing round.placing round.deciding
+  -- behind the closings
+  brief_places : IsBrief most (behind_closings ++ (round.placing ++ round.deciding))
+  brief_places = brief_then most (before ++ []) round.closing (round.placing ++ round.deciding) brief_all
 
   afford_all : Affords (followed s) (round.closing ++ (round.placing ++ round.deciding))
   afford_all = affords_then terms before [] (round.closing ++ (round.placing ++ round.deciding)) s (followed s) silent.comes (subst (λ (hs : Log). Affords s hs) log_is affords)
@@ -79,25 +99,21 @@ module _ (terms : List Term) (before : Log) (shelf : KeptMap) (I : Turn → Stat
   deciding_at : (t : State) → t.phase ≡ DecidingAgain → t.made_room_for ≡ None → IsDeciding t
   deciding_at t is room = record { at = ap (λ (f : Phase). is_same_phase Deciding f || is_same_phase DecidingAgain f) is; none = room }
 
-  -- places left this life as it was, since decisions do not bring it back
-  placed_well : round.placed.desk.state.is_astray ≡ false
-  placed_well = well_before round.placed.desk.state.is_astray y.desk.state.is_astray (all_stay shelf round.placed y round.deciding any round.decides) well
-
   have : HavePlacesNow terms behind_closings number shelf I round.placed round.placing closed.then
   have =
-      places_end terms behind_closings number shelf I round.closed round.placed round.placing closed.then supplies closed.comes.obeys closed.amid closed.holds afford_places closed.phase closed.closed round.places placed_well
+      places_end terms most behind_closings number shelf I round.closed round.placed round.placing closed.then supplies closed.comes.obeys (brief_front most behind_closings round.placing round.deciding brief_places) closed.amid closed.holds afford_places closed.phase closed.closed round.places placed_well
 
   stands_again : StandsInRound shelf round.placed have.then
   stands_again = record {
     number = number;
     amid = have.amid;
     deciding = deciding_at have.then have.phase have.amid.none;
-    disk = supplies.keeps round.placed.desk.state have.then have.holds;
+    disk = supplies.keeps (behind_closings ++ round.placing) number round.placed have.then have.comes.obeys (brief_front most behind_closings round.placing round.deciding brief_places) have.amid have.holds;
   }
 
   decided : AreDecided terms (behind_closings ++ round.placing) shelf I y round.deciding any have.then
   decided =
-      decides_round terms shelf I supplies 65536 (behind_closings ++ round.placing) round.placed y round.deciding any have.then have.comes.obeys stands_again have.holds
+      decides_round terms most shelf I supplies 65536 (behind_closings ++ round.placing) round.placed y round.deciding any have.then have.comes.obeys (brief_then most behind_closings round.placing round.deciding brief_places) stands_again have.holds
       (turned_none shelf round.placed round.deciding y any have.amid.away round.decides).decides well
 
   comes : ComesTo terms before log s decided.then
@@ -113,8 +129,13 @@ module _ (terms : List Term) (before : Log) (shelf : KeptMap) (I : Turn → Stat
     closed = λ none_more. subst (λ (t : State). has_closings t ≡ false) (sym (decided.unless none_more)) have.closed;
   }
 
+-- whatever holds from one step to the next
+pub rounds_lead : (terms : List Term) (most : ℕ) (before : Log) (shelf : KeptMap) (I : Turn → State → Type 0) (x y : Moving) (log : Log) (any : Bool) (s : State) → RoundSupplies terms most shelf I → Obeys terms s before → IsBrief most (before ++ log) → Affords s log → StandsInRound shelf x s → I x.desk.state s → s.phase ≡ Deciding → first_due s ≡ None
+    → GoesRound shelf x log y any → y.desk.state.is_astray ≡ false → EndsRound terms before shelf I y log any s
+rounds_lead terms most before shelf I x y log any s supplies obeys brief affords stands holds at none round well = goes_round terms most before shelf I x y log any s supplies obeys brief affords stands holds at none round well
+
 pub rounds_end : RoundsEnd
-rounds_end terms before shelf test x y log any s supplies obeys affords stands holds at none round well = goes_round terms before shelf (Passes test) x y log any s supplies obeys affords stands holds at none round well
+rounds_end terms most before shelf test x y log any s supplies obeys brief affords stands holds at none round well = rounds_lead terms most before shelf (Passes test) x y log any s supplies obeys brief affords stands holds at none round well
 
 pub rounds : RoundsLead
-rounds terms before shelf test x y log any s supplies obeys affords stands holds at none round well = (rounds_end terms before shelf test x y log any s supplies obeys affords stands holds at none round well).gone
+rounds terms most before shelf test x y log any s supplies obeys brief affords stands holds at none round well = (rounds_end terms most before shelf test x y log any s supplies obeys brief affords stands holds at none round well).gone

@@ -1,5 +1,5 @@
 -- A turn goes round, and ends.
-use Rattle.std.proofs.Common.{◌≡◌, ◌≤◌, refl, sym, subst, ap, ◌∙◌, ℕ, ◌+◌, Bool, true, false, List, ◌++◌, length}
+use Rattle.std.proofs.Common.{◌≡◌, ◌≤◌, refl, sym, subst, ap, ◌∙◌, ℕ, ◌+◌, true, false, List, ◌++◌, length}
 use Rattle.std.specs.List.{All}
 use Rattle.std.specs.Prelude.{vec_capacity}
 use Rattle.pp_cache.specs.Bounds.{IsBounded}
@@ -20,6 +20,7 @@ use Rattle.pp_proxy.specs.Moving.{Moving}
 use Rattle.pp_proxy.specs.Rounds.{Serves}
 use Rattle.pp_rounds_law.specs.Rounds.{EndsRound, HasGoneRound}
 use Rattle.pp_rounds_law.specs.Stands.{StandsAmid}
+use Rattle.pp_rounds_law.specs.Supplies.{RoundSupplies}
 use Rattle.pp_rounds_law.specs.Decisions.{Passes}
 use Rattle.pp_rounds_law.proofs.Begun.{Begun, CanBeAsked, all_begun}
 use Rattle.pp_rounds_law.proofs.Ended.{ends}
@@ -29,14 +30,15 @@ use Rattle.pp_state.specs.declared.state.State.{State as Turn}
 use Rattle.pp_store.specs.Kept.{KeptMap}
 use Rattle.pp_world.specs.Log.{Log}
 use Rattle.pp_rounds_law.proofs.Astray.{loops_stay}
-use Rattle.pp_rounds_law.proofs.Loops.{loops}
+use Rattle.pp_rounds_law.proofs.Loops.{loops_lead}
 use Rattle.pp_rounds_law.specs.Astray.{IsAstray}
 use Rattle.pp_rounds_law.specs.Loops.{MayGoRound}
 use Rattle.pp_rounds_law.specs.Serves.{EndSupplies, HasServed, ServesLead, StaysSet}
+use Rattle.pp_rounds_law.specs.Coming.{IsBrief}
 
-module _ (terms : List Term) (before : Log) (shelf : KeptMap) (test : Turn → State → Bool) (x y : Moving) (log : Log) (s : State) (supplies : EndSupplies shelf (Passes test)) (may : MayGoRound terms before shelf (Passes test) x log s) (serves : Serves shelf x log y) (bounded : IsBounded y.desk.state.cache)
-    (round : EndsRound terms before shelf (Passes test) serves.between log false s) where
-  abbrev gone : HasGoneRound terms before shelf (Passes test) serves.between log false s
+module _ (terms : List Term) (most : ℕ) (before : Log) (shelf : KeptMap) (I : Turn → State → Type 0) (x y : Moving) (log : Log) (s : State) (supplies : EndSupplies terms most shelf I) (may : MayGoRound terms before shelf I x log s) (brief : IsBrief most (before ++ log)) (serves : Serves shelf x log y) (bounded : IsBounded y.desk.state.cache)
+    (round : EndsRound terms before shelf I serves.between log false s) where
+  abbrev gone : HasGoneRound terms before shelf I serves.between log false s
   gone = round.gone
 
   abbrev mid : Moving
@@ -51,7 +53,7 @@ module _ (terms : List Term) (before : Log) (shelf : KeptMap) (test : Turn → S
   ended : HasEnded gone.stands.number shelf y.desk gone.then
   ended =
       ends terms gone.stands.number (before ++ log) shelf mid.desk y.desk gone.then gone.comes.obeys
-      (record { stands = to_decide; at = gone.phase; done = gone.none; closed = round.closed refl; begins = supplies.begins gone.stands.number mid.desk gone.then gone.holds to_decide })
+      (record { stands = to_decide; at = gone.phase; done = gone.none; closed = round.closed refl; begins = supplies.begins (before ++ log) gone.stands.number mid.desk gone.then gone.comes.obeys brief to_decide gone.holds })
       serves.begins bounded
 
   begun : Begun mid.desk.state.awake.items mid.desk.state y.desk.state
@@ -93,7 +95,12 @@ begun_as_before shelf x y log serves =
 pub serves_stay : (shelf : KeptMap) (x y : Moving) (log : Log) → Serves shelf x log y → IsAstray x → IsAstray y
 serves_stay shelf x y log serves is = begun_as_before shelf x y log serves ∙ loops_stay 65536 shelf true x serves.between log serves.rounds is
 
+-- whatever holds from one step to the next
+pub serves_lead : (terms : List Term) (most : ℕ) (before : Log) (shelf : KeptMap) (I : Turn → State → Type 0) (x y : Moving) (log : Log) (s : State) → RoundSupplies terms most shelf I → EndSupplies terms most shelf I → MayGoRound terms before shelf I x log s → IsBrief most (before ++ log) → Serves shelf x log y → IsBounded y.desk.state.cache
+    → y.desk.state.is_astray ≡ false → HasServed terms before shelf y log s
+serves_lead terms most before shelf I x y log s supplies ends_too may brief served_so bounded well =
+    served terms most before shelf I x y log s ends_too may brief served_so bounded
+    (loops_lead terms most before shelf I 65536 x served_so.between log s supplies may brief served_so.rounds (sym (begun_as_before shelf x y log served_so) ∙ well))
+
 pub serves : ServesLead
-serves terms before shelf test x y log s supplies ends_too may served_so bounded well =
-    served terms before shelf test x y log s ends_too may served_so bounded
-    (loops terms before shelf test 65536 x served_so.between log s supplies may served_so.rounds (sym (begun_as_before shelf x y log served_so) ∙ well))
+serves terms most before shelf test x y log s supplies ends_too may brief served_so bounded well = serves_lead terms most before shelf (Passes test) x y log s supplies ends_too may brief served_so bounded well

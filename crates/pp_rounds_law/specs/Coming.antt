@@ -1,5 +1,5 @@
 -- A log goes on by happenings that may come, and by phases that are done, and leads to a state of the law. All of it is ours.
-use Rattle.std.specs.Prelude.{◌≡◌, ◌≤◌, ◌+◌, ℕ, List, ◌++◌, count_by, Bool, Option}
+use Rattle.std.specs.Prelude.{◌≡◌, ◌≤◌, ◌+◌, ℕ, List, length, ◌++◌, count_by, Bool, Option}
 use Rattle.pp_law.specs.State.{State, Term}
 use Rattle.pp_obeys.specs.Calls.{Passes}
 use Rattle.pp_obeys.specs.Failures.{fails}
@@ -10,6 +10,10 @@ use Rattle.pp_world.specs.Log.{Log}
 -- the outside may fail so often still, as it did in these: `Allows` of `pp_obeys` has it, where `Adds` counted them
 abbrev pub Affords : State → Log → Type 0
 Affords s hs = s.failures + count_by fails hs ≤ s.term.faults
+
+-- a log of so many happenings at most: where those are few, no count that they take on comes to its end
+abbrev pub IsBrief : ℕ → Log → Type 0
+IsBrief most hs = length hs ≤ most
 
 -- behind them it may go on from there: each failure is counted, and the life is the same. Over several steps it joins, and where a phase is
 -- done it is of no happening

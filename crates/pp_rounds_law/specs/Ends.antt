@@ -44,9 +44,9 @@ pub record WasDecidedAs (number : ℕ → ℕ) (s : State) (seat : Seat) (c : Cl
 pub record MayBeginNow (number : ℕ → ℕ) (s : State) (seat : Seat) (c : Client) : Type 0 where
   -- its text has room in its buffer, as each of `pp_client` has
   pub room : length seat.client.reply.text ≤ 20480
-  -- where a response is passed to it, its exchange had its head: pp_laws_passed has it where the reply has begun, and else no source yet
+  -- where a response is passed to it, its exchange had its head (`pp_laws_passed`, of a reply that has begun; `pp_asks_law`)
   pub headed : is_some (passed_of c) ≡ true → list_any (λ e. is_of c.number e && not (is_headed e)) s.exchanges ≡ false
-  -- what was decided of it stands: no source yet
+  -- what was decided of it stands (`pp_asks_law`)
   pub decided : (a : Answer) → seat.stage ≡ IsAnswering a → a.has_begun ≡ false → WasDecidedAs number s seat c a
 
 -- of each client that goes on

@@ -1,6 +1,6 @@
 -- Behind its decisions a turn goes round, and then replies begin: the law lets it wait there (RFC 2616, sections 6, 8.1 and 8.1.4; the order is
 -- ours).
-use Rattle.std.specs.Prelude.{◌≡◌, ◌≤◌, ◌+◌, ℕ, Bool, false, List, length, vec_capacity, None}
+use Rattle.std.specs.Prelude.{◌≡◌, ◌≤◌, ◌+◌, ℕ, Bool, false, List, ◌++◌, length, vec_capacity, None}
 use Rattle.std.specs.List.{All}
 use Rattle.pp_cache.specs.Bounds.{IsBounded}
 use Rattle.pp_closings_law.specs.Log.{AreLinked}
@@ -10,11 +10,12 @@ use Rattle.pp_desk.specs.declared.desk.Desk.{Desk}
 use Rattle.pp_law.specs.Connections.{limits}
 use Rattle.pp_law.specs.Phases.{ending}
 use Rattle.pp_law.specs.State.{State, Term}
+use Rattle.pp_obeys.specs.Obeys.{Obeys}
 use Rattle.pp_places_law.specs.Around.{AreAskable}
 use Rattle.pp_places_law.specs.Closings.{AreOpen}
 use Rattle.pp_proxy.specs.Moving.{Moving}
 use Rattle.pp_proxy.specs.Rounds.{Serves}
-use Rattle.pp_rounds_law.specs.Coming.{ComesTo}
+use Rattle.pp_rounds_law.specs.Coming.{ComesTo, IsBrief}
 use Rattle.pp_rounds_law.specs.Supplies.{RoundSupplies}
 use Rattle.pp_rounds_law.specs.Decisions.{Passes}
 use Rattle.pp_rounds_law.specs.Ends.{AllMayBeginNow, HasEnded}
@@ -25,9 +26,9 @@ use Rattle.pp_world.specs.Log.{Log}
 use Rattle.pp_rounds_law.specs.Loops.{MayGoRound}
 
 -- what the end rests on beside that of rounds, as long as that holds
-pub record EndSupplies (shelf : KeptMap) (I : Turn → State → Type 0) : Type 0 where
-  -- what each reply that begins rests on, beside what stands
-  pub begins : (number : ℕ → ℕ) (p : Desk) (s : State) → I p.state s → StandsToDecide number p.peers shelf p.state s → AllMayBeginNow number p s
+pub record EndSupplies (terms : List Term) (most : ℕ) (shelf : KeptMap) (I : Turn → State → Type 0) : Type 0 where
+  -- what each reply that begins rests on, beside what stands, and beside a log that obeys the law
+  pub begins : (before : Log) (number : ℕ → ℕ) (p : Desk) (s : State) → Obeys terms s before → IsBrief most before → StandsToDecide number p.peers shelf p.state s → I p.state s → AllMayBeginNow number p s
 
 -- connections, and what is set, stand as in a round (Stands.`StandsAmid`)
 pub record StaysSet (y : Moving) (s : State) : Type 0 where
@@ -53,5 +54,5 @@ pub record HasServed (terms : List Term) (before : Log) (shelf : KeptMap) (y : M
 
 -- the cache is bounded, as each is; this life did not go astray, as `AllLead` of Decisions has it, and replies that begin leave that as it was
 abbrev pub ServesLead : Type 0
-ServesLead = (terms : List Term) (before : Log) (shelf : KeptMap) (test : Turn → State → Bool) (x y : Moving) (log : Log) (s : State) → RoundSupplies shelf (Passes test) → EndSupplies shelf (Passes test) → MayGoRound terms before shelf (Passes test) x log s → Serves shelf x log y
+ServesLead = (terms : List Term) (most : ℕ) (before : Log) (shelf : KeptMap) (test : Turn → State → Bool) (x y : Moving) (log : Log) (s : State) → RoundSupplies terms most shelf (Passes test) → EndSupplies terms most shelf (Passes test) → MayGoRound terms before shelf (Passes test) x log s → IsBrief most (before ++ log) → Serves shelf x log y
     → IsBounded y.desk.state.cache → y.desk.state.is_astray ≡ false → HasServed terms before shelf y log s

@@ -1,7 +1,7 @@
 -- Behind the disk a turn decides, and then goes round, or at Stop closes all: from the first decision of a turn to its end (RFC 2616, sections
 -- 8.1 and 8.1.4; the order is ours). A client for whom there was no memory is left out: where one is, the law has it and the program does not,
 -- up to its cut.
-use Rattle.std.specs.Prelude.{◌≡◌, Bool, true, false, List, [], length, None}
+use Rattle.std.specs.Prelude.{◌≡◌, ℕ, Bool, true, false, List, [], ◌++◌, length, None}
 use Rattle.std.specs.List.{list_any}
 use Rattle.pp_cache.specs.Bounds.{IsBounded}
 use Rattle.pp_closings_law.specs.Log.{AreLinked}
@@ -11,13 +11,14 @@ use Rattle.pp_law.specs.Closing.{is_over}
 use Rattle.pp_law.specs.Permits.{is_over as may_be_over}
 use Rattle.pp_law.specs.State.{State, Term, Deciding}
 use Rattle.pp_obeys.specs.Obeys.{Obeys}
+use Rattle.pp_peers.specs.declared.peers.Peer.{Peer}
 use Rattle.pp_places_law.specs.Closings.{AreOpen}
 use Rattle.pp_proxy.specs.Moving.{Moving}
 use Rattle.pp_proxy.specs.Settling.{Settles}
-use Rattle.pp_rounds_law.specs.Coming.{Affords, ComesTo}
+use Rattle.pp_rounds_law.specs.Coming.{Affords, ComesTo, IsBrief}
 use Rattle.pp_rounds_law.specs.Stands.{StandsInRound}
 use Rattle.pp_rounds_law.specs.Supplies.{RoundSupplies}
-use Rattle.pp_rounds_law.specs.Decisions.{Passes, Supplies}
+use Rattle.pp_rounds_law.specs.Decisions.{IsMoment, Passes, Supplies}
 use Rattle.pp_rounds_law.specs.Stops.{NobodyIsLeft}
 use Rattle.pp_state.specs.Ends.{numbers_of}
 use Rattle.pp_state.specs.Numbers.{places}
@@ -38,18 +39,18 @@ pub record MaySettle (terms : List Term) (before : Log) (shelf : KeptMap) (I : T
 
 -- the cache is bounded, as each is; this life did not go astray: the turn's end says so
 abbrev pub SettlesLead : Type 0
-SettlesLead = (terms : List Term) (before : Log) (shelf : KeptMap) (test : Turn → State → Bool) (x y : Moving) (log : Log) (s : State) → RoundSupplies shelf (Passes test) → EndSupplies shelf (Passes test) → MaySettle terms before shelf (Passes test) x log s → Settles shelf x log y
+SettlesLead = (terms : List Term) (most : ℕ) (before : Log) (shelf : KeptMap) (test : Turn → State → Bool) (x y : Moving) (log : Log) (s : State) → RoundSupplies terms most shelf (Passes test) → EndSupplies terms most shelf (Passes test) → MaySettle terms before shelf (Passes test) x log s → IsBrief most (before ++ log) → Settles shelf x log y
     → IsBounded y.desk.state.cache → y.desk.state.is_astray ≡ false → HasServed terms before shelf y log s
 
 -- ---- at Stop
 
 -- what decisions rest on there, beside what stands; no exchange is nobody's and nowhere, and none of it leaves the phase of decisions
-pub record StopSupplies (shelf : KeptMap) (I : Turn → State → Type 0) : Type 0 where
-  pub decides : Supplies shelf I
+pub record StopSupplies (terms : List Term) (most : ℕ) (shelf : KeptMap) (I : Turn → State → Type 0) : Type 0 where
+  pub decides : Supplies terms most shelf I
   -- each decision, and each cut, leads there
-  pub at : (p : Turn) (s : State) → I p s → s.phase ≡ Deciding
+  pub at : (before : Log) (peers : List Peer) (p : Turn) (s : State) → IsMoment terms most before peers shelf p s → I p s → s.phase ≡ Deciding
   -- as `RestsOn` of `pp_deciding_law` has it: no source yet
-  pub going : (p : Turn) (s : State) → I p s → list_any is_over s.exchanges ≡ false
+  pub going : (before : Log) (peers : List Peer) (p : Turn) (s : State) → IsMoment terms most before peers shelf p s → I p s → list_any is_over s.exchanges ≡ false
 
 pub record StandsAtStop (shelf : KeptMap) (x : Moving) (s : State) : Type 0 where
   -- what stands amid decisions
@@ -74,5 +75,5 @@ pub record HasStopped (terms : List Term) (before : Log) (y : Moving) (log : Log
 
 -- this life did not go astray: the turn's end says so
 abbrev pub StopsLead : Type 0
-StopsLead = (terms : List Term) (before : Log) (shelf : KeptMap) (test : Turn → State → Bool) (x y : Moving) (log : Log) (s : State) → StopSupplies shelf (Passes test) → Obeys terms s before → Affords s log → StandsAtStop shelf x s → Passes test x.desk.state s → Settles shelf x log y
+StopsLead = (terms : List Term) (most : ℕ) (before : Log) (shelf : KeptMap) (test : Turn → State → Bool) (x y : Moving) (log : Log) (s : State) → StopSupplies terms most shelf (Passes test) → Obeys terms s before → IsBrief most (before ++ log) → Affords s log → StandsAtStop shelf x s → Passes test x.desk.state s → Settles shelf x log y
     → y.desk.state.is_astray ≡ false → HasStopped terms before y log s

@@ -7,21 +7,26 @@
 //! followers ask, connections that are over are closed, exchanges get their places, and then decisions come again. `Stands` has what stands
 //! beside the law's state through all of it, `Steps` and `InRounds` join it step by step, and `Rounds` is the round: from a state in which
 //! nothing is due to one in which nothing is due, over the phases that are done and the happenings that come. `Supplies` lists what that rests
-//! on beside what stands, each with its source or that there is none yet. `Coming` is how the log goes on, which joins over happenings and over
-//! phases that are done, and from which what stands is kept.
+//! on beside what stands, each with its source or that there is none yet: whatever holds from step to step supplies it, beside a log that obeys
+//! the law, of so many happenings at most, what stands, and that this life does not go astray by the step. `Coming` is how the log goes on,
+//! which joins over happenings and over phases that are done, and from which what stands is kept.
 //!
 //! A dial may be refused wherever the places of a round come to (`Dials`), as often as the outside may fail: an attempt is lost, and where its
 //! exchange is over, those that are looked at are so still, what each follows is there, the cache is bounded (`Bounds`), and there is room for
-//! what followers ask. So places lead from a log that obeys the law (`Led`), but for what has no source yet: that memory was refused for no
-//! row, that what is kept of a body ends with a chunk or with the body, and that no count ends at 2^64.
+//! what followers ask. So places lead from a log that obeys the law (`Led`). `pp_asks_law` has what followers and refusals rest on, in logs of
+//! fewer happenings than counts end at.
 //!
 //! `Loops`: rounds, one behind the other, lead to where nothing is due behind a round that decided nothing. `Ends`: there the law lets a turn
 //! wait, and replies that begin show what the law has at its end; `Serves` joins both. `Stops`: at Stop all clients and then all origins leave
 //! the log's connections, one behind the other, and the log may end. The program neither drops what nobody sees nor gives up asks then, and the
 //! law does both: of it all who is there alone is shown. `Settles`: behind the disk a turn decides, and then serves so, or stops.
 //!
-//! Decisions, places, rounds and all behind them, and a stop lead so where this life did not go astray by their end: it does where one is left
-//! behind the 65,536 that there may be in one go. What went astray stays so (`Astray`).
+//! Decisions, each step of a round, rounds and all behind them, and a stop lead so where this life did not go astray by their end: it does where
+//! one is left behind the 65,536 that there may be in one go. What went astray stays so (`Astray`).
+//!
+//! The clauses take what holds from step to step as a test of a turn and a state. For whatever holds so, lemmas say the same, to be cited by
+//! other crates: `decides_all` (`proofs/Decisions.antt`), `rounds_lead` (`Round`), `loops_lead` (`Loops`), `serves_lead` (`Serves`),
+//! `settles_lead` (`Settled`) and `stops_lead` (`Stopped`).
 //!
 //! Not said: a client for whom there was no memory, which is cut before the first decision; and a turn in which memory was refused for a row
 //! before its decisions: of theirs it was not, where this life did not go astray.

@@ -6,6 +6,7 @@ mod Evicting
 mod Followers
 mod Gates
 mod Idle
+mod LateFaults
 mod Long
 mod OneAnswer
 mod Openings

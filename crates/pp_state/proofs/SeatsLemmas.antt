@@ -15,7 +15,7 @@ use Rattle.pp_seats.specs.Courses.{has_begun, without_row}
 use Rattle.pp_seats.specs.Follows.{next_of}
 use Rattle.pp_seats.specs.Seats.{has_key}
 use Rattle.pp_seats.specs.declared.seat.Course.TheVariants.{Trying}
-use Rattle.pp_state.specs.Ends.{AreInOrder, all_decided_anew, all_regained, changed_at, decided_anew, is_held_next, numbers_of, place_of, regained, useless_if_refused}
+use Rattle.pp_state.specs.Ends.{AreInOrder, all_decided_anew, all_regained, changed_at, decided_anew, is_regained, numbers_of, place_of, regained, useless_if_refused}
 
 -- ---- a number that is there is found at its place, and one that is not is not found
 
@@ -185,7 +185,7 @@ all_regained-next m is n seats within = ap (λ xs. all_regained m xs seats) (tak
 
 -- each keeps its number
 regained_number : (m : Memory) (seat : Seat) → (regained m seat).client.id ≡ seat.client.id
-regained_number m seat = by (is_held_next (next_of seat) m)
+regained_number m seat = by (is_regained m seat)
   where
     by : (b : Bool) → (cond b (record seat { course = Trying 0 }) seat).client.id ≡ seat.client.id
     by true = refl

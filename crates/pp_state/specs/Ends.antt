@@ -1,5 +1,5 @@
 -- What becomes of exchanges (RFC 2616, section 8.1.4): whose they are, what an attempt that is lost costs, and who leaves them.
-use Rattle.std.specs.Prelude.{◌≡◌, ℕ, suc, ◌<◌, Bool, false, ◌==◌, ◌&&◌, ◌||◌, if◌then◌else◌, List, [], ◌∷◌, length, map, nat_lt, slice_get, slice_index, slice_set, is_some, Option, Some, None, option_and_then, option_map}
+use Rattle.std.specs.Prelude.{◌≡◌, ℕ, suc, ◌<◌, Bool, false, ◌==◌, ◌&&◌, ◌||◌, not, if◌then◌else◌, List, [], ◌∷◌, length, map, nat_lt, slice_get, slice_index, slice_set, is_some, Option, Some, None, option_and_then, option_map}
 use Rattle.std.specs.List.{find}
 use Rattle.pp_cache.specs.Memory.{Memory, extent_of, is_in_memory, retired_at}
 use Rattle.pp_cache.specs.Notes.{has_noted, unnoted}
@@ -12,7 +12,7 @@ use Rattle.pp_objects.specs.Instances.{followers_of, in_slot, is_there, row_of}
 use Rattle.pp_objects.specs.declared.id.ObjectId.{ObjectId}
 use Rattle.pp_seats.specs.Courses.{has_begun, is_trying_in, is_unfilled, lost_one, without_row}
 use Rattle.pp_seats.specs.Follows.{answer_in, next_of}
-use Rattle.pp_seats.specs.Seats.{brought_to, has_key}
+use Rattle.pp_seats.specs.Seats.{brought_to, has_key, passed_in}
 use Rattle.pp_seats.specs.declared.seat.Brought.{Brought}
 use Rattle.pp_seats.specs.declared.seat.Brought.TheVariants.{Awaited, Useless, Joins, Passes, TooWide, Refused}
 use Rattle.pp_seats.specs.declared.seat.Course.{Course}
@@ -267,7 +267,7 @@ source_at i p = option_and_then source_of (slice_get p.seats i)
 abbrev pub left_source : ℕ → Parts → Parts
 left_source i p = elim (source_at i p) [ None ↦ p | Some id ↦ record p { seats = changed_at i without_source p.seats; cache = unfollowed id p.cache } ]
 
--- ---- attempts count anew for those whose next byte is held
+-- ---- attempts count anew for those whose next byte is held and to whom no response is passed
 
 abbrev pub is_held : ObjectId → ℕ → Memory → Bool
 is_held id at m = (is_there id m.instances && is_in_memory id.slot at m.chunks) || nat_lt at (extent_of id m)
@@ -276,8 +276,11 @@ abbrev pub is_held_next : Option Next → Memory → Bool
 is_held_next None m = false
 is_held_next (Some next) m = is_held next.source next.at m
 
+abbrev pub is_regained : Memory → Seat → Bool
+is_regained m seat = is_held_next (next_of seat) m && not (is_some (passed_in seat.brought))
+
 abbrev pub regained : Memory → Seat → Seat
-regained m seat = if is_held_next (next_of seat) m then record seat { course = Trying 0 } else seat
+regained m seat = if is_regained m seat then record seat { course = Trying 0 } else seat
 
 -- of those at these places
 abbrev pub all_regained : Memory → List ℕ → List Seat → List Seat

@@ -1,7 +1,7 @@
 // What the steps of a turn change together: clients, exchanges and the cache.
 ghost use Rattle.std.specs.Prelude.{◌≡◌, ◌<◌, ◌≤◌, ◌&&◌, ◌+◌, ◌||◌, length, nat_le, nat_lt, option_map, slice_get, vec_capacity, Some, IfSome};
 ghost use Rattle.pp_seats.specs.Courses.{is_unfilled};
-ghost use Rattle.pp_state.specs.Ends.{asker_of, dropped_row, ended, exchange_at, exchange_of, failed, forsaken, given_up_row, is_unfilled_at, left_at_decision, lost_attempt, may_ask_again, numbers_of, parts, place_of, seat_for, AreInOrder, AreSeated, KeepsRest, all_regained, changed_at, is_held_next, left_source, regained, source_at, unfollowed, without_source};
+ghost use Rattle.pp_state.specs.Ends.{asker_of, dropped_row, ended, exchange_at, exchange_of, failed, forsaken, given_up_row, is_unfilled_at, left_at_decision, lost_attempt, may_ask_again, numbers_of, parts, place_of, seat_for, AreInOrder, AreSeated, KeepsRest, all_regained, changed_at, is_held_next, left_source, is_regained, regained, source_at, unfollowed, without_source};
 ghost use Rattle.pp_seats.specs.Follows.{next_of};
 ghost use Rattle.pp_state.specs.Numbers.{places, with_number};
 
@@ -285,13 +285,20 @@ impl State {
         self.cache.leave(id);
     }
 
-    /// Attempts count anew for those whose next byte is held.
+    /// Attempts count anew for those whose next byte is held and to whom no response is passed.
     pub fn regain(&mut self)
         ensures is { self.new.seats.items ≡ all_regained self.old.cache self.old.awake.items self.old.seats.items }
         ensures numbers { numbers_of self.new.seats.items ≡ numbers_of self.old.seats.items }
         ensures rest { record self.new { seats = self.old.seats } ≡ self.old }
     {
         regain_all(&mut self.seats, &self.awake, &self.cache);
+    }
+
+    /// This life goes astray where there is more to do.
+    pub fn note_more(&mut self, goes: bool)
+        ensures { self.new ≡ record self.old { is_astray = self.old.is_astray || goes } }
+    {
+        self.is_astray = self.is_astray || goes;
     }
 
     /// Eviction begins where as many chunks are used as the trigger says.
@@ -329,14 +336,14 @@ fn regain_at(seats: &mut [Seat], i: usize, cache: &Cache)
     }
 }
 
-/// Where the next byte of this client is held, its attempts count anew.
+/// Where the next byte of this client is held, its attempts count anew; not where a response is passed to it.
 fn regain(seat: &mut Seat, cache: &Cache)
     ensures { seat.new ≡ regained cache.now seat.old }
 {
     if matches!(seat.course, Course::Trying(0)) {
         return;
     }
-    if is_next_held(seat, cache) {
+    if is_next_held(seat, cache) && seat.passed().is_none() {
         seat.course = Course::Trying(0);
     }
 }

@@ -1,5 +1,5 @@
 // What is waited for, so that nobody waits on nothing, and what a wait changes. It is ours.
-ghost use Rattle.std.specs.Prelude.{◌≡◌, [], drop, false, filter, length, map, nat_lt, slice_get};
+ghost use Rattle.std.specs.Prelude.{◌≡◌, [], drop, false, filter, length, map, nat_lt, slice_get, vec_capacity};
 ghost use Rattle.pp_wants.specs.Awaited.{all_asked, all_got, has_room_on, with_asked, with_got};
 ghost use Rattle.pp_desk.specs.Closings.{where_there};
 ghost use Rattle.pp_desk.specs.Marks.{on_peer_at};
@@ -27,6 +27,7 @@ pub fn note_wants(desk: &mut Desk, wants: &mut Wants) -> usize
     ensures read { AreSeated desk.old.state → AreInOrder wants.old.read.items → wants.new.read.items ≡ all_got (filter (is_loud desk.old.state.seats.items) desk.old.state.awake.items) (parts desk.old.state) desk.old.peers (all_read desk.old.state wants.old.read.items) }
     ensures write { AreSeated desk.old.state → wants.new.write.items ≡ all_asked (parts desk.old.state) desk.old.peers (all_written desk.old.state []) }
     ensures awake { desk.new.state.awake.items ≡ filter (is_loud desk.old.state.seats.items) desk.old.state.awake.items }
+    ensures room { vec_capacity desk.new.state.awake ≡ vec_capacity desk.old.state.awake }
     ensures seats { desk.new.state.seats.items ≡ desk.old.state.seats.items }
     ensures rest { record desk.new { state = record desk.new.state { seats = desk.old.state.seats; awake = desk.old.state.awake } } ≡ desk.old }
 {

@@ -20,7 +20,7 @@ returns-in-Tick-clause-is g c = λ seated.
     let faults = g.W.Logged.faults in
     let x = turning c.args.shelf.now c.args.desk.now c.args.links.now (top c.args.world.now) (log c.args.world.now) (faults c.args.world.now) in
     let y = turning c.args.shelf.now c.tick.new.desk c.args.links.now (top c.args.world.now) (log c.args.world.now) (faults c.args.world.now) in
-    subst (λ (e : Event). Handles e x y) (sym c.in-Tick.is) (record { is = c.tick.ensures.is seated; awake = c.tick.ensures.awake; rest = c.tick.ensures.rest }, record { shelf = refl; links = refl; top = refl; told = refl; count = omega arith })
+    subst (λ (e : Event). Handles e x y) (sym c.in-Tick.is) (record { is = c.tick.ensures.is seated; awake = c.tick.ensures.awake; room = c.tick.ensures.room; rest = c.tick.ensures.rest }, record { shelf = refl; links = refl; top = refl; told = refl; count = omega arith })
 
 pub returns-in-Accepted-clause-is : goal.returns-in-Accepted-clause-is
 returns-in-Accepted-clause-is g c = λ seated.

@@ -1,4 +1,5 @@
-use Rattle.std.proofs.Common.{◌∙◌, ap}
+use Rattle.std.proofs.Common.{◌∙◌, ap, arith}
+use Rattle.std.specs.Prelude.{vec_capacity}
 use Rattle.pp_desk.specs.Closings.{sides}
 use Rattle.pp_proxy.specs.Ticks.{ticked}
 use Rattle.pp_proxy.proofs.TickLemmas.{all_awake, all_else, all_ticked, with_clock}
@@ -18,6 +19,10 @@ returns-clause-awake c =
     let mark = c.mark_where.ensures in
     let second = c.begin_second.ensures in
     all_awake c.is_leap.result c.max-now.result c.args.desk.now c.mark_where.new.self c.begin_second.new.state mark.seats mark.rest second.seats second.rest c.close_idle.new.desk second.awake c.close_idle.ensures.rest
+
+pub returns-clause-room : goal.returns-clause-room
+returns-clause-room c =
+    omega (arith, c.begin_second.ensures.room, ap (λ (d : Desk). vec_capacity d.state.awake) c.mark_where.ensures.rest, ap (λ (d : Desk). vec_capacity d.state.awake) c.close_idle.ensures.rest)
 
 pub returns-clause-rest : goal.returns-clause-rest
 returns-clause-rest c =

@@ -40,4 +40,5 @@ returns-clause-is g c =
       kept_bounded = c.bounds-3.ensures;
       settles = c.settle.ensures.is;
       settles_shelf = refl;
+      bounded = c.bounds-4.ensures;
     }

@@ -1,0 +1,12 @@
+pub mod Narrow
+pub mod Along
+pub mod Wanted
+pub mod Keyed
+pub mod Nobodys
+pub mod Counted
+pub mod Few
+pub mod Happened
+pub mod AskMore
+pub mod GoWithout
+pub mod Left
+pub mod Begins

@@ -1,0 +1,5 @@
+pub mod Rests
+pub mod Asks
+pub mod Dials
+pub mod Stays
+pub mod Begins

@@ -1,0 +1,16 @@
+pub mod Wanted
+pub mod SilentOnes
+pub mod ClientReads
+pub mod KeptOpen
+pub mod ToSay
+pub mod CanWrite
+pub mod ClientWrites
+pub mod WokenOnes
+pub mod OriginThere
+pub mod OriginBreaks
+pub mod OriginAsked
+pub mod OriginWanted
+pub mod OriginWrites
+pub mod OriginRoom
+pub mod OriginReads
+pub mod SettledOnes

@@ -1,0 +1,73 @@
+-- An origin can be read, as it was waited for.
+use Rattle.std.proofs.Common.{◌≡◌, refl, sym, subst, ap, ◌∙◌, ℕ, suc, Bool, true, false, ◌&&◌, not, List, [], ◌∷◌, Option, Some, inl, inr}
+use Rattle.std.specs.List.{list_all}
+use Rattle.std.specs.Prelude.{slice_get}
+use Rattle.pp_comes_law.proofs.OriginRoom.{has_room}
+use Rattle.pp_comes_law.proofs.OriginThere.{answers_first, goes_on, keys_given}
+use Rattle.pp_comes_law.proofs.OriginWanted.{IsWanted, first_of_three, is_on, may_be, wanted_one}
+use Rattle.pp_comes_law.proofs.OriginWrites.{linked_on}
+use Rattle.pp_comes_law.specs.Awaited.{HasComeTo, IsAwaited}
+use Rattle.pp_comes_law.specs.Origins.{IsOfOrigin, OriginReadsCome}
+use Rattle.pp_comes_law.proofs.SettledOnes.{settled_so}
+use Rattle.pp_law.specs.Asking.{has_room as takes_more}
+use Rattle.pp_law.specs.Connections.{front_of_line, is_client, is_conn}
+use Rattle.pp_law.specs.Lists.{is_some_with}
+use Rattle.pp_law.specs.Served.{is_stopped, may_read, may_write, wants_read}
+use Rattle.pp_law.specs.State.{State, Conn, Term}
+use Rattle.pp_law.specs.Turn.{rest_with, rested_conn}
+use Rattle.pp_laws.proofs.Tests.{first_holds, same_number, second_holds}
+use Rattle.pp_laws.specs.Runs.{IsIn}
+use Rattle.pp_links.specs.Links.{IsLinked}
+use Rattle.pp_proxy.specs.Moving.{Turning}
+use Rattle.pp_reads_law.specs.Goes.{AllGoOn}
+use Rattle.pp_reads_law.specs.Readable.{HasLedToldBehind, MayBeRead, OriginReadsLead}
+use Rattle.pp_world.specs.Log.{Log}
+use Rattle.pp_world.specs.declared.event.Event.TheVariants.{Readable}
+use Rattle.pp_world.specs.declared.happening.Happening.TheVariants.{CanRead}
+use Rattle.pp_world.specs.declared.event.Wants.{Wants}
+
+stands : {A : Type 0} (x : A) (xs : List A) → IsIn x xs → (i : ℕ) × (slice_get xs i ≡ Some x)
+stands x [] i = absurd i
+stands x (y ∷ ys) (inl is) = (0, ap (λ z. Some z) (sym is))
+stands x (y ∷ ys) (inr rest) = let one = stands x ys rest in (suc one.0, one.1)
+
+off_of : (b : Bool) → not b ≡ true → b ≡ false
+off_of true is = absurd (cc is)
+off_of false is = refl
+
+module _ (terms : List Term) (log : Log) (number : ℕ → ℕ) (w : Wants) (x : Turning) (u : State) (it : IsAwaited terms log number w x u) (k : ℕ) (off : IsOfOrigin k x) (came : HasComeTo log w (Readable k) x) where
+  abbrev s : State
+  s = rest_with w u
+
+  pub wanted : IsWanted w u k (λ j. is_conn k j && j.is_reached)
+  wanted =
+      wanted_one terms log number w x u it k (λ c. is_client k c && not c.has_hung_up && takes_more c) (λ j. is_conn k j && j.is_reached) off (λ c. first_of_three (is_client k c) (not c.has_hung_up) (takes_more c)) (λ j. first_holds (is_conn k j) j.is_reached)
+      (may_be (may_read u) k w.read.items (first_holds (list_all (may_read u) w.read.items) (list_all (may_write u) w.write.items) it.good.no_more) came.wanted)
+
+  abbrev its : Conn
+  its = rested_conn u w wanted.was
+
+  -- it was wanted, so that it does not stop
+  goes : is_some_with (is_stopped u) (front_of_line u wanted.was) ≡ false
+  goes =
+      let at = stands wanted.was u.conns wanted.before in
+      let reads : wants_read w wanted.was.number ≡ true = ap (wants_read w) (same_number wanted.was.number k (first_holds (is_conn k wanted.was) wanted.was.is_reached wanted.holds)) ∙ is_on (wants_read w k) came.wanted in
+      off_of (is_some_with (is_stopped u) (front_of_line u wanted.was)) (second_holds wanted.was.is_reached (not (is_some_with (is_stopped u) (front_of_line u wanted.was))) (sym (it.gets at.0 wanted.was at.1) ∙ reads))
+
+  pub may_be_read : AllGoOn s → MayBeRead k x s its
+  may_be_read next = record {
+    there = wanted.there;
+    going = goes_on terms log number w x u it its wanted.here;
+    answers = λ a is. answers_first terms log number w x u it its a wanted.here is;
+    room = has_room w u k wanted.was wanted.there goes;
+    long = it.buffer;
+    holds = it.holds;
+    linked = subst (λ (o : Option Log). IsLinked o x.moving.top x.moving.links) (sym came.told) (linked_on log (CanRead k) x.moving.top x.moving.links (λ id side. refl) it.linked);
+    settled = settled_so terms log number w x u it;
+    next = next;
+  }
+
+pub origin_reads_come : OriginReadsLead → OriginReadsCome
+origin_reads_come leads k terms log number w x y u off it came may handles bounded straight =
+    let led : HasLedToldBehind (CanRead k) x y (rest_with w u) = leads terms log number k x y (rest_with w u) _ it.obeys it.stands it.ready (may_be_read terms log number w x u it k off came may.next) may.brings bounded straight handles in
+    record { number = led.number; led = led.led; ready = λ told. led.ready told (keys_given terms log number w x y u (Readable k) it handles straight) }

@@ -1,0 +1,7 @@
+pub mod Awaited
+pub mod Silent
+pub mod Clients
+pub mod Answered
+pub mod ClientWrites
+pub mod Origins
+pub mod Settled

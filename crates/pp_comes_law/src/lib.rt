@@ -1,0 +1,21 @@
+//! An event that was waited for is handled as the law has it, whichever it is.
+//!
+//! To the layer above: each is the clause of a function that does nothing. It is one part of the proof that the program obeys the law.
+//!
+//! Takes no memory, and does nothing when the program runs.
+#![tactic(auto)]
+
+mod answered; // who is answered, and goes on
+mod clients; // of clients
+mod origins; // connections to origins
+mod settled; // of whom nothing is over
+mod silent; // Stop, a tick, an origin that was reached, a client that comes
+
+pub use answered::answered_ones_go_on;
+pub use clients::{clients_are_read_as_by_the_law, clients_are_written_to_as_by_the_law};
+pub use origins::{
+    broken_connections_come_as_by_the_law, origins_are_asked_as_they_come,
+    origins_are_read_as_they_come,
+};
+pub use settled::awaited_ones_are_settled;
+pub use silent::silent_events_come_as_by_the_law;

@@ -1,0 +1,4 @@
+pub mod Stays
+pub mod Laws
+pub mod Heads
+pub mod Counts

@@ -1,0 +1,9 @@
+pub mod AsKept
+pub mod Bytes
+pub mod Gone
+pub mod Left
+pub mod Less
+pub mod Noted
+pub mod Repeats
+pub mod Rows
+pub mod Staying

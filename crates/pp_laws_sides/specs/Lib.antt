@@ -1,0 +1,4 @@
+pub mod Sides
+pub mod Linked
+pub mod Tops
+pub mod Counts

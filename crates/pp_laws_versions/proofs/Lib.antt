@@ -1,0 +1,9 @@
+pub mod View
+pub mod Cases
+pub mod Rows
+pub mod Store
+pub mod Asks
+pub mod Heads
+pub mod Turns
+pub mod Happenings
+pub mod Laws

@@ -1,0 +1,12 @@
+pub mod Along
+pub mod Awaited
+pub mod CallsHandled
+pub mod Ends
+pub mod HandledSo
+pub mod Kept
+pub mod ServedOn
+pub mod Serves
+pub mod SilentOnes
+pub mod Supplied
+pub mod Waited
+pub mod WaitsAgain

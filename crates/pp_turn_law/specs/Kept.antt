@@ -1,0 +1,56 @@
+-- From an event that is handled, over what leaves memory and what is kept on the disk, to where decisions come next, beside a log that obeys
+-- the law (RFC 7233, section 4.3, for what asks that bring nothing asked; the order is ours).
+--
+-- Where the premises come from: an event leads to IsHandled of `pp_events_law`, with each client that can be decided; `carried` is Carried of
+-- `pp_joints_law`, which has no source yet behind an event, nor has `leave`. What memory and disk do is TakesEvent of `pp_proxy`.
+use Rattle.std.specs.Prelude.{◌≡◌, ◌≤◌, ◌+◌, ℕ, Some}
+use Rattle.pp_cache.specs.Bounds.{IsBounded}
+use Rattle.pp_events_law.specs.Stands.{AreReadyAt, IsHandled}
+use Rattle.pp_joints_law.specs.Carried.{IsCarried}
+use Rattle.pp_joints_law.specs.Keeping.{HasBeenKept, kept_in}
+use Rattle.pp_joints_law.specs.Leaving.{IsToLeave}
+use Rattle.pp_keeps_law.specs.All.{HasGrown}
+use Rattle.pp_law.specs.State.{State}
+use Rattle.pp_obeys.specs.Obeys.{Allows, Life, Obeys}
+use Rattle.pp_proxy.specs.Events.{Keeps}
+use Rattle.pp_proxy.specs.Leaving.{Leaves}
+use Rattle.pp_proxy.specs.Moving.{LeadsOn, Turning}
+use Rattle.pp_shelf_law.specs.AsKept.{EachIsAsKept}
+use Rattle.pp_turn_law.specs.Goes.{GoesTo}
+use Rattle.pp_world.specs.Log.{Log}
+
+-- ---- where an event is handled
+
+pub record StandsHandled (life : Life) (budget : ℕ) (log : Log) (number : ℕ → ℕ) (x : Turning) (s : State) : Type 0 where
+  pub obeys : Obeys (life.terms budget) s log
+  pub allows : Allows life budget x.faults s
+  pub told : x.log ≡ Some log
+  pub handled : IsHandled number x.moving s
+  pub ready : AreReadyAt number x.moving s
+  pub carried : IsCarried x.shelf x.moving handled.handled
+  pub leave : IsToLeave x.moving handled.handled
+
+-- what is done then, up to the disk: memory is left, and what stands no more is taken away, and what is whole kept
+pub record LeavesAndKeeps (x y : Turning) : Type 0 where
+  pub left : Turning
+  pub leaves : LeadsOn Leaves x.moving left.moving x.log left.log x.faults left.faults
+  pub shelf : left.shelf ≡ x.shelf
+  pub bounded : IsBounded left.moving.desk.state.cache
+  pub keeps : Keeps left y
+  -- what is whole of each instance is kept in the turn in which it came, and each name has its fields: no source yet, of each turn
+  pub grown : HasGrown (kept_in left)
+  pub kept : EachIsAsKept y.shelf
+
+-- ---- where decisions come next
+
+pub record HasGoneToDecide (life : Life) (budget : ℕ) (log : Log) (x y : Turning) (s : State) : Type 0 where
+  pub then : State
+  pub goes : GoesTo life budget log y s then
+  pub number : ℕ → ℕ
+  pub kept : HasBeenKept number y then
+  -- neither memory nor the disk says Stop
+  pub stopped : y.moving.desk.state.is_stopped ≡ x.moving.desk.state.is_stopped
+
+-- the log is told behind it, and the outside failed no more often than the life may have
+abbrev pub HandledOnesGoToDecide : Type 0
+HandledOnesGoToDecide = (life : Life) (budget : ℕ) (log after : Log) (number : ℕ → ℕ) (x y : Turning) (s : State) → StandsHandled life budget log number x s → LeavesAndKeeps x y → y.log ≡ Some after → y.faults ≤ budget + life.base → HasGoneToDecide life budget log x y s

@@ -1,0 +1,9 @@
+pub mod Again
+pub mod Awaited
+pub mod Called
+pub mod Goes
+pub mod Handled
+pub mod Kept
+pub mod Served
+pub mod Supplied
+pub mod Waited
