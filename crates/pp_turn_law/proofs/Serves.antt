@@ -22,4 +22,4 @@ handled_serve life budget log after number x k y s st keeps supplied does going 
     let counted : k.faults + count_by fails does.settles.added ≤ y.faults = does.settles.counted.at after told in
     let gone : HasGoneToDecide life budget log x k s = go_to_decide life budget log before.0 number x k s st keeps before.1 (fewer k.faults (count_by fails does.settles.added) y.faults budget life.base counted few) in
     let serves : StandsToServe life budget (log ++ gone.goes.added) gone.number k gone.then = record { obeys = gone.goes.comes.obeys; allows = gone.goes.allows; told = gone.goes.told; kept = gone.kept; going = sym gone.kept.turn.stopped ∙ gone.stopped ∙ going } in
-    record { kept = k; gone = gone; served = deciding_serve life budget (log ++ gone.goes.added) after gone.number k y gone.then serves (supplied gone.number gone.then gone.kept) does told few brief }
+    record { kept = k; gone = gone; served = deciding_serve life budget (log ++ gone.goes.added) after gone.number k y gone.then serves (supplied gone) does told few brief }

@@ -1,8 +1,8 @@
 -- From an event that is handled, over what leaves memory and what is kept on the disk, to where decisions come next, beside a log that obeys
 -- the law (RFC 7233, section 4.3, for what asks that bring nothing asked; the order is ours).
 --
--- Where the premises come from: an event leads to IsHandled of `pp_events_law`, with each client that can be decided; `carried` is Carried of
--- `pp_joints_law`, which has no source yet behind an event, nor has `leave`. What memory and disk do is TakesEvent of `pp_proxy`.
+-- Where the premises come from: Handled and Called have StandsHandled behind each event but the read of an origin, and a write before which a
+-- chunk is read back. What memory and disk do is TakesEvent of `pp_proxy`.
 use Rattle.std.specs.Prelude.{◌≡◌, ◌≤◌, ◌+◌, ℕ, Some}
 use Rattle.pp_cache.specs.Bounds.{IsBounded}
 use Rattle.pp_events_law.specs.Stands.{AreReadyAt, IsHandled}
@@ -37,7 +37,8 @@ pub record LeavesAndKeeps (x y : Turning) : Type 0 where
   pub shelf : left.shelf ≡ x.shelf
   pub bounded : IsBounded left.moving.desk.state.cache
   pub keeps : Keeps left y
-  -- what is whole of each instance is kept in the turn in which it came, and each name has its fields: no source yet, of each turn
+  -- what is whole of each instance is kept in the turn in which it came, and each name has its fields: `pp_grown_law` has both behind a keeping,
+  -- and carries the first over what leaves memory and over rows; that both stand from there to the next keeping has no source yet
   pub grown : HasGrown (kept_in left)
   pub kept : EachIsAsKept y.shelf
 

@@ -61,6 +61,6 @@ pub record HasServedBehind (life : Life) (budget : ℕ) (log : Log) (x y : Turni
 
 abbrev pub HandledOnesServe : Type 0
 HandledOnesServe = (life : Life) (budget : ℕ) (log after : Log) (number : ℕ → ℕ) (x k y : Turning) (s : State) → StandsHandled life budget log number x s → LeavesAndKeeps x k
-    -- no source yet, of what came to be with the event: what each client is to be said, and what is dropped
-    → ((n : ℕ → ℕ) (t : State) → HasBeenKept n k t → StandsSupplied k.shelf k.moving.desk.state t)
+    -- where decisions come next, along this log; `pp_given_law` and `pp_grown_law` carry it there piece by piece, which is not joined yet
+    → ((gone : HasGoneToDecide life budget log x k s) → StandsSupplied k.shelf k.moving.desk.state gone.then)
     → ServesOn k y → x.moving.desk.state.is_stopped ≡ false → y.log ≡ Some after → y.faults ≤ budget + life.base → length after < most_happenings → HasServedBehind life budget log x y s
