@@ -1,9 +1,9 @@
 mod Bodies
-mod Busy
+pub mod Busy
 mod Disproved
-mod Dropped
+pub mod Dropped
 mod Filled
-mod Joined
+pub mod Joined
 mod Made
 mod Numbered
 mod Orders
@@ -11,11 +11,11 @@ mod Others
 mod Owned
 mod Places
 mod Relayed
-mod Renewed
+pub mod Renewed
 mod Sites
-mod Standing
+pub mod Standing
 mod Taken
-mod Through
+pub mod Through
 mod ToCome
 mod Told
-mod Useless
+pub mod Useless

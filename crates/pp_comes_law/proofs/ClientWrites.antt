@@ -81,10 +81,10 @@ module _ (id i : ℕ) (seat : Seat) (terms : List Term) (log : Log) (number : �
   abbrev next : Turning
   next = at_desk woken x
 
-  abbrev its : Seat
+  abbrev pub its : Seat
   its = (now id i seat terms log number w x u it can woken writes.wakes).seat
 
-  says : SaysAt i next y
+  pub says : SaysAt i next y
   says = subst (λ (o : Option ℕ). WritesBy o id next y) (place id i seat terms log number w x u it can woken writes.wakes) writes.writes
 
   may_say : next_on_disk x.moving.desk.state seat ≡ None → MaySay id i next its
@@ -119,13 +119,13 @@ module _ (id i : ℕ) (seat : Seat) (terms : List Term) (log : Log) (number : �
   waits : (is_at Handling s || is_at Evicting s) ≡ false
   waits = ap (λ (p : Phase). is_same_phase Handling p || is_same_phase Evicting p) it.stands.law.at
 
-  room : CanBeLoaded i x y s → length x.moving.desk.state.cache.chunks + 3 ≤ x.moving.desk.state.cache.size
+  room : CanBeLoaded x y s → length x.moving.desk.state.cache.chunks + 3 ≤ x.moving.desk.state.cache.size
   room load =
       let free : length s.chunks + 32 ≤ s.settings.critical = (turns_have_room terms s log it.obeys).waits waits in
       let long : length x.moving.desk.state.cache.chunks ≡ length s.chunks = used_of_all number x.moving.desk.state.cache s it.stands.desk.turn.steps.shows.table.table in
       omega (arith, free, long, load.size)
 
-  may_load : (n : Next) → next_on_disk x.moving.desk.state seat ≡ Some n → CanBeLoaded i x y s → MayLoad id i next y its n v
+  pub may_load : (n : Next) → next_on_disk x.moving.desk.state seat ≡ Some n → CanBeLoaded x y s → MayLoad id i next y its n v
   may_load n alone load =
       let alone_now : next_on_disk woken.state its ≡ Some n = same_next id i seat terms log number w x u it can woken writes.wakes ∙ alone in
       let short : (n.at < n.to) × (n.to ≤ 1073741824) = within id i seat terms log number w x u it can woken writes.wakes n (next_there woken.state.cache (is_at_body its) (next_of its) n alone_now) in
@@ -152,10 +152,10 @@ module _ (id i : ℕ) (seat : Seat) (terms : List Term) (log : Log) (number : �
         goes = goes id i seat terms log number w x u it can woken writes.wakes;
       }
 
-  loaded : (n : Next) → next_on_disk x.moving.desk.state seat ≡ Some n → CanBeLoaded i x y s → HasLedReady number next y v ⊎ HasLostChunk number next y v
+  pub loaded : (n : Next) → next_on_disk x.moving.desk.state seat ≡ Some n → CanBeLoaded x y s → HasLedReady number next y v ⊎ HasLostChunk number next y v
   loaded n alone load =
       loads_lead terms (log ++ CanWrite id ∷ []) number id i next y its n v can.came.told (obeys id i seat terms log number w x u it can woken writes.wakes) (owed id i seat terms log number w x u it can woken writes.wakes).stands (owed id i seat terms log number w x u it can woken writes.wakes).ready
-      (may_load n alone load) says (load.bounded woken says) bounded
+      (may_load n alone load) says says.says.bounded bounded
 
   handled : HasLedReadyBehind number (CanWrite id) x y s → y.moving.desk.state.is_astray ≡ false → IsHandledBehind number (Writable id) x y s
   handled led straight = record { led = led.led; ready = led.ready (given straight) }

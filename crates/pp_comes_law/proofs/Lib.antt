@@ -14,3 +14,7 @@ pub mod OriginWrites
 pub mod OriginRoom
 pub mod OriginReads
 pub mod SettledOnes
+pub mod BodyLess
+pub mod GotPieces
+pub mod ComesOn
+pub mod ReadMoments

@@ -1,5 +1,5 @@
 -- An origin can be read, as it was waited for.
-use Rattle.std.proofs.Common.{◌≡◌, refl, sym, subst, ap, ◌∙◌, ℕ, suc, Bool, true, false, ◌&&◌, not, List, [], ◌∷◌, Option, Some, inl, inr}
+use Rattle.std.proofs.Common.{◌≡◌, refl, sym, subst, ap, ◌∙◌, ℕ, suc, Bool, true, false, ◌&&◌, not, List, [], ◌∷◌, ◌++◌, Option, Some, None, inl, inr}
 use Rattle.std.specs.List.{list_all}
 use Rattle.std.specs.Prelude.{slice_get}
 use Rattle.pp_comes_law.proofs.OriginRoom.{has_room}
@@ -8,17 +8,23 @@ use Rattle.pp_comes_law.proofs.OriginWanted.{IsWanted, first_of_three, is_on, ma
 use Rattle.pp_comes_law.proofs.OriginWrites.{linked_on}
 use Rattle.pp_comes_law.specs.Awaited.{HasComeTo, IsAwaited}
 use Rattle.pp_comes_law.specs.Origins.{IsOfOrigin, OriginReadsCome}
+use Rattle.pp_comes_law.proofs.ReadMoments.{bytes_rest}
 use Rattle.pp_comes_law.proofs.SettledOnes.{settled_so}
+use Rattle.pp_law.specs.After.{event, owing}
 use Rattle.pp_law.specs.Asking.{has_room as takes_more}
-use Rattle.pp_law.specs.Connections.{front_of_line, is_client, is_conn}
+use Rattle.pp_law.specs.Connections.{front_of_line, is_client, is_conn, on_client, on_conn}
 use Rattle.pp_law.specs.Lists.{is_some_with}
 use Rattle.pp_law.specs.Served.{is_stopped, may_read, may_write, wants_read}
-use Rattle.pp_law.specs.State.{State, Conn, Term}
-use Rattle.pp_law.specs.Turn.{rest_with, rested_conn}
+use Rattle.pp_law.specs.Replies.{regained}
+use Rattle.pp_law.specs.State.{State, Conn, Term, Awaiting, Handling, ReadOf}
+use Rattle.pp_law.specs.Turn.{rest_with, rested_conn, touch}
 use Rattle.pp_laws.proofs.Tests.{first_holds, same_number, second_holds}
 use Rattle.pp_laws.specs.Runs.{IsIn}
+use Rattle.pp_laws_turn.proofs.Laws.{sound_turns}
 use Rattle.pp_links.specs.Links.{IsLinked}
-use Rattle.pp_proxy.specs.Moving.{Turning}
+use Rattle.pp_obeys.proofs.Happenings.{goes_can_read, obeys_by}
+use Rattle.pp_obeys.specs.Obeys.{Obeys}
+use Rattle.pp_proxy.specs.Moving.{Turning, at_desk}
 use Rattle.pp_reads_law.specs.Goes.{AllGoOn}
 use Rattle.pp_reads_law.specs.Readable.{HasLedToldBehind, MayBeRead, OriginReadsLead}
 use Rattle.pp_world.specs.Log.{Log}
@@ -67,7 +73,28 @@ module _ (terms : List Term) (log : Log) (number : ℕ → ℕ) (w : Wants) (x :
     next = next;
   }
 
+-- where the read is owed
+owed_obeys : (terms : List Term) (log : Log) (k : ℕ) (s : State) → Obeys terms s log → s.made_room_for ≡ None → s.phase ≡ Awaiting → Obeys terms (event (owing (ReadOf k) k s)) (log ++ CanRead k ∷ [])
+owed_obeys terms log k s obeys none at = obeys_by (CanRead k) obeys (goes_can_read s k none at) (λ fails. absurd (cc fails))
+
+owed_phase : (k : ℕ) (s : State) → (event (owing (ReadOf k) k s)).phase ≡ Handling
+unfolding event owing regained
+owed_phase k s = refl
+
+owed_so : (k : ℕ) (s : State) → (event (owing (ReadOf k) k s)).owed ≡ ReadOf k
+unfolding event owing regained
+owed_so k s = refl
+
+owed_going : (k : ℕ) (s : State) → (event (owing (ReadOf k) k s)).is_stopped ≡ s.is_stopped
+unfolding event owing regained touch on_conn on_client
+owed_going k s = refl
+
 pub origin_reads_come : OriginReadsLead → OriginReadsCome
 origin_reads_come leads k terms log number w x y u off it came may handles bounded straight =
-    let led : HasLedToldBehind (CanRead k) x y (rest_with w u) = leads terms log number k x y (rest_with w u) _ it.obeys it.stands it.ready (may_be_read terms log number w x u it k off came may.next) may.brings bounded straight handles in
+    let s : State = rest_with w u in
+    let led : HasLedToldBehind k x y s =
+    leads terms log number k x y s _ it.obeys it.stands it.ready (may_be_read terms log number w x u it k off came may.next)
+    (λ woken wakes.
+    bytes_rest terms (log ++ CanRead k ∷ []) k (at_desk woken x) y (event (owing (ReadOf k) k s)) (owed_obeys terms log k s it.obeys it.stands.law.none it.stands.law.at) (owed_phase k s) (owed_so k s)
+    (owed_going k s ∙ ((sound_turns terms s log it.obeys).awaits it.stands.law.at).going) (may.brings woken wakes)) bounded straight handles in
     record { number = led.number; led = led.led; ready = λ told. led.ready told (keys_given terms log number w x y u (Readable k) it handles straight) }

@@ -58,7 +58,7 @@ shown_conn s (p ∷ ps) (j ∷ ks) k shows (inl e) = (p, subst (λ (c : Conn). S
 shown_conn s (p ∷ ps) (j ∷ ks) k shows (inr i) = shown_conn s ps ks k shows.1 i
 
 -- the first of its line is there
-first_shown : (s : State) (n : ℕ) (line : List ℕ) (asks : List Ask) → ShowsLine s (n ∷ line) asks → (e : Exchange) × (exchange s n ≡ Some e)
+pub first_shown : (s : State) (n : ℕ) (line : List ℕ) (asks : List Ask) → ShowsLine s (n ∷ line) asks → (e : Exchange) × (exchange s n ≡ Some e)
 first_shown s n line [] shows = absurd shows
 first_shown s n line (ask ∷ asks) shows = (shows.0.0, shows.0.1)
 

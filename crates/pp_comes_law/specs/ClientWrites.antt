@@ -17,8 +17,8 @@ use Rattle.pp_law.specs.State.{State, Term, WriteTo}
 use Rattle.pp_law.specs.Turn.{rest_with}
 use Rattle.pp_laws_sides.specs.Counts.{IsShortLog}
 use Rattle.pp_obeys.specs.Moves.{Leads}
-use Rattle.pp_proxy.specs.Handling.{Handles, SaysAt, Wakes}
-use Rattle.pp_proxy.specs.Moving.{Turning, at_desk}
+use Rattle.pp_proxy.specs.Handling.{Handles, Wakes}
+use Rattle.pp_proxy.specs.Moving.{Turning}
 use Rattle.pp_seats.specs.declared.seat.Next.{Next}
 use Rattle.pp_seats.specs.declared.seat.Seat.{Seat}
 use Rattle.pp_state.specs.Ends.{numbers_of, place_of}
@@ -62,7 +62,7 @@ ClientWritesCome = (id i : ℕ) (seat : Seat) (terms : List Term) (log : Log) (n
 
 -- ---- it is
 
-pub record CanBeLoaded (i : ℕ) (x y : Turning) (s : State) : Type 0 where
+pub record CanBeLoaded (x y : Turning) (s : State) : Type 0 where
   pub disk : StandsOnDisk x.shelf s
   pub holds : Told x.log (Holds anything x.shelf)
   -- from the opening on (Opening.`IsNew` of `pp_desk`): so there is room for the chunk (Room of `pp_laws_room`)
@@ -70,8 +70,6 @@ pub record CanBeLoaded (i : ℕ) (x y : Turning) (s : State) : Type 0 where
   -- behind it the log is told
   pub log : Log
   pub told : y.log ≡ Some log
-  -- and with the chunk the cache is bounded, as each is: no source yet, as LoadsAndSays of `pp_talk` has no field for it
-  pub bounded : (woken : Desk) (says : SaysAt i (at_desk woken x) y) → IsBounded says.says.loaded.state.cache
 
 -- the chunk could not be read: nothing is said, and each client that goes on can be decided
 pub record IsLostBehind (number : ℕ → ℕ) (id : ℕ) (x y : Turning) (s : State) : Type 0 where
@@ -80,5 +78,5 @@ pub record IsLostBehind (number : ℕ → ℕ) (id : ℕ) (x y : Turning) (s : S
   pub ready : AreReadyAt number y.moving (without_entry lost.key (at_write id s))
 
 abbrev pub ClientLoadsCome : Type 0
-ClientLoadsCome = (id i : ℕ) (seat : Seat) (next : Next) (terms : List Term) (log : Log) (number : ℕ → ℕ) (w : Wants) (x y : Turning) (u : State) → IsAwaited terms log number w x u → CanBeWritten id i seat log w x → next_on_disk x.moving.desk.state seat ≡ Some next → CanBeLoaded i x y (rest_with w u) → Handles (Writable id) (come (Writable id) x) y
+ClientLoadsCome = (id i : ℕ) (seat : Seat) (next : Next) (terms : List Term) (log : Log) (number : ℕ → ℕ) (w : Wants) (x y : Turning) (u : State) → IsAwaited terms log number w x u → CanBeWritten id i seat log w x → next_on_disk x.moving.desk.state seat ≡ Some next → CanBeLoaded x y (rest_with w u) → Handles (Writable id) (come (Writable id) x) y
     → IsBounded y.moving.desk.state.cache → y.moving.desk.state.is_astray ≡ false → IsHandledBehind number (Writable id) x y (rest_with w u) ⊎ IsLostBehind number id x y (rest_with w u)

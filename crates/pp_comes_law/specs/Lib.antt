@@ -5,3 +5,4 @@ pub mod Answered
 pub mod ClientWrites
 pub mod Origins
 pub mod Settled
+pub mod Moments

@@ -200,6 +200,7 @@ module _ (terms : List Term) (before : Log) (number : ℕ → ℕ) (id i : ℕ) 
         says = says.says.says;
         rest = says.says.rest;
         counted = says.says.counted;
+        bounded = says.says.bounded;
       };
       numbers = says.numbers ∙ sym (ap numbers_of seats_mid);
       links = says.links;

@@ -41,7 +41,7 @@ module _ (n c : ℕ) where
   unfolding gone
   goes m s h = each n c (conn s m) s _ h (λ k. ends_all n c (ended false k s) (ends k s h))
 
-  breaks_old : (m : ℕ) (s : State) → P n c s → P n c (paid (gone false m (event s)))
+  pub breaks_old : (m : ℕ) (s : State) → P n c s → P n c (paid (gone false m (event s)))
   breaks_old m s h = pays n c (gone false m (event s)) (goes m (event s) (in_event s h))
 
 -- ---- the program
@@ -62,7 +62,7 @@ module _ (f : Exchanges) where
   where_whole Whole k x h = whole_on k (option_and_then (λ number. entry_of number x.parts.flow) (first_on k x.parts)) x h
   where_whole Short k x h = h
 
-  gone_on : (is_clean : Bool) (k : ℕ) (x : Sides) → G f x.parts → G f (origin_gone is_clean k x).parts
+  pub gone_on : (is_clean : Bool) (k : ℕ) (x : Sides) → G f x.parts → G f (origin_gone is_clean k x).parts
   gone_on is_clean k x h =
       let y : Sides = record x { peers = ended_by is_clean k (find (is_peer k) x.peers) x.peers } in
       let z : Sides = whole_where (ending_by is_clean (find (is_peer k) x.peers)) k y in

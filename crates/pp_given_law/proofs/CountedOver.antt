@@ -122,7 +122,7 @@ was_alike f each n (k ∷ ks) j is = by (is_conn n k) refl (ap (λ (b : Bool). c
     by true at is rest = record { old = k; there = ap (λ (c : Bool). cond c (Some k) (find (is_conn n) ks)) at; alike = subst (λ (i : Conn). IsAlike k i) (some_is (f k) j is) (each k) }
     by false at is rest = let was : WasAlike ks n j = rest is in record { old = was.old; there = ap (λ (c : Bool). cond c (Some k) (find (is_conn n) ks)) at ∙ was.there; alike = was.alike }
 
-where_alike : (test : Conn → Bool) (f : Conn → Conn) → ((k : Conn) → IsAlike k (f k)) → (k : Conn) → IsAlike k (elim (test k) as (λ b. Conn) [ true ↦ f k | false ↦ k ])
+pub where_alike : (test : Conn → Bool) (f : Conn → Conn) → ((k : Conn) → IsAlike k (f k)) → (k : Conn) → IsAlike k (elim (test k) as (λ b. Conn) [ true ↦ f k | false ↦ k ])
 where_alike test f each k = by (test k)
   where
     by : (b : Bool) → IsAlike k (elim b as (λ c. Conn) [ true ↦ f k | false ↦ k ])

@@ -44,7 +44,7 @@ use Rattle.pp_given_law.specs.Counts.{AreOfClient, CountedAsHeard, is_of_client}
 -- ---- the law
 
 module _ (n c : ℕ) where
-  on_seat_of : (m : ℕ) (f : Client → Client) (s : State) → P n c s → P n c (on_client m f s)
+  pub on_seat_of : (m : ℕ) (f : Client → Client) (s : State) → P n c s → P n c (on_client m f s)
   unfolding on_client
   on_seat_of m f s h = h
 
@@ -102,11 +102,11 @@ module _ (n c : ℕ) where
   unfolding hang_up
   hangs_up m s h = when n c (is_writing s.owed m) (close_client m false s) _ (closes_client m false s h) (ends_all _ (on_seat_of m (λ d. record d { has_hung_up = true }) s h))
 
-  owes : (owed : Owed) (m : ℕ) (s : State) → P n c s → P n c (event (owing owed m s))
+  pub owes : (owed : Owed) (m : ℕ) (s : State) → P n c s → P n c (event (owing owed m s))
   unfolding event regained owing touch
   owes owed m s h = on_one n c m (marked_conn s.clock) _ (λ k its. its) (on_seat_of m _ s h)
 
-  one_comes : (s : State) (h : Happening) → is_of_client h ≡ true → P n c s → P n c (after s h)
+  pub one_comes : (s : State) (h : Happening) → is_of_client h ≡ true → P n c s → P n c (after s h)
   unfolding changed
   one_comes s (Heard m bytes) is its = pays _ (hears_bytes m bytes s its)
   one_comes s (HungUp m) is its = pays _ (hangs_up m s its)
@@ -128,13 +128,13 @@ then_conns t u anew = sym (ap (λ (v : State). v.conns) anew)
 -- ---- the program
 
 module _ (f : Exchanges) where
-  same_flow : (p q : Parts) → q.flow ≡ p.flow → G f p → G f q
+  pub same_flow : (p q : Parts) → q.flow ≡ p.flow → G f p → G f q
   same_flow p q same h = subst (λ (g : Exchanges). AllOf (IsAsBefore f) g.placed) (sym same) h
 
-  same_sides : (x z : Sides) → z ≡ x → G f x.parts → G f z.parts
+  pub same_sides : (x z : Sides) → z ≡ x → G f x.parts → G f z.parts
   same_sides x z same h = subst (λ (w : Sides). G f w.parts) (sym same) h
 
-  closes_on : (i : ℕ) (x : Sides) → G f x.parts → G f (closed_client i x).parts
+  pub closes_on : (i : ℕ) (x : Sides) → G f x.parts → G f (closed_client i x).parts
   closes_on i x h = (cut_fine AnySeat AnyEntry (IsAsBefore f) AnyMemory (bodies_suit f) [] i x (whole f x.parts h)).placed
 
   next_on : (i : ℕ) (p : Parts) → G f p → G f (at_next i p)

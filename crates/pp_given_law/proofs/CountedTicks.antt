@@ -118,11 +118,11 @@ module _ (n c : ℕ) where
       when (is_headed e) _ _ (over e.number _ (on_asker e (on_passed (λ p. record p { is_short = true })) s h))
       (when (may_ask_again s e.number) (on_exchange e.number unplaced s) (end_exchange e.number s) (on_ask e.number unplaced s h) (over e.number s h))
 
-  loses_place : (counts : Bool) (e : Exchange) (s : State) → P s → P (lose_place counts e s)
+  pub loses_place : (counts : Bool) (e : Exchange) (s : State) → P s → P (lose_place counts e s)
   unfolding lose_place
   loses_place counts e s h = when counts (leave_place e (lose_attempt e s)) (leave_place e s) (leaves e (lose_attempt e s) (loses e s h)) (leaves e s h)
 
-  all_exchanges : (f : Exchange → State → State) → ((e : Exchange) (s : State) → P s → P (f e s)) → (ns : List ℕ) (s : State) → P s → P (each_exchange f ns s)
+  pub all_exchanges : (f : Exchange → State → State) → ((e : Exchange) (s : State) → P s → P (f e s)) → (ns : List ℕ) (s : State) → P s → P (each_exchange f ns s)
   unfolding each_exchange
   all_exchanges f all [] s h = h
   all_exchanges f all (m ∷ ns) s h = all_exchanges f all ns _ (each (exchange s m) s (λ e. f e s) h (λ e. all e s h))
@@ -332,17 +332,17 @@ came_fixed s n k j (m ∷ ms) there is (inl same) = same
 came_fixed s n k j (m ∷ ms) there is (inr none) = absurd (cc none)
 
 -- so as much is counted
-pub old_counted : (number : ℕ → ℕ) (f g : Exchanges) (s t : State) → ShowsFlow number none_leaves f s → ShowsFlow number none_leaves g t → AllOf (IsAsBefore f) g.placed → ((m : ℕ) (k : Conn) → conn s m ≡ Some k → AllConns (HasOld m (came_of k)) t.conns)
+pub old_counted_by : (number other : ℕ → ℕ) (f g : Exchanges) (s t : State) → ShowsFlow number none_leaves f s → ShowsFlow other none_leaves g t → AllOf (IsAsBefore f) g.placed → ((m : ℕ) (k : Conn) → conn s m ≡ Some k → AllConns (HasOld m (came_of k)) t.conns)
     → ((m : ℕ) (k : Conn) → conn s m ≡ Some k → IsCountedOn f k) → (n : ℕ) (j : Conn) → conn t n ≡ Some j → IsCountedOn g j
 unfolding fixed
-old_counted number f g s t shows later bodies old counted n j there = back j.line refl (counted_behind number number f g s u shows behind bodies came counted n (fix s j) (find_fixed s n t.conns ∙ ap (λ (o : Option Conn). option_map (fix s) o) there))
+old_counted_by number other f g s t shows later bodies old counted n j there = back j.line refl (counted_behind number other f g s u shows behind bodies came counted n (fix s j) (find_fixed s n t.conns ∙ ap (λ (o : Option Conn). option_map (fix s) o) there))
   where
     u : State
     u = record t { conns = map (fix s) t.conns }
 
-    behind : ShowsFlow number none_leaves g u
+    behind : ShowsFlow other none_leaves g u
     behind =
-        frames number none_leaves g t later none_leaves u
+        frames other none_leaves g t later none_leaves u
         (record { exchanges = refl; next = refl; lines = λ m. ap (λ (o : Option Conn). line_in o) (find_fixed s m t.conns) ∙ line_fixed s (find (is_conn m) t.conns) })
 
     came : (m : ℕ) (k i : Conn) → conn s m ≡ Some k → conn u m ≡ Some i → came_of i ≡ came_of k
@@ -357,6 +357,10 @@ old_counted number f g s t shows later bodies old counted n j there = back j.lin
     back : (line : List ℕ) → j.line ≡ line → IsCountedOn g (fixed s line j) → IsCountedOn g j
     back [] none h m e has here = absurd (let bad : false ≡ true = sym (ap (λ (line : List ℕ). has_number m line) none) ∙ has in cc bad)
     back (a ∷ more) none h m e has here = h m e has here
+
+pub old_counted : (number : ℕ → ℕ) (f g : Exchanges) (s t : State) → ShowsFlow number none_leaves f s → ShowsFlow number none_leaves g t → AllOf (IsAsBefore f) g.placed → ((m : ℕ) (k : Conn) → conn s m ≡ Some k → AllConns (HasOld m (came_of k)) t.conns)
+    → ((m : ℕ) (k : Conn) → conn s m ≡ Some k → IsCountedOn f k) → (n : ℕ) (j : Conn) → conn t n ≡ Some j → IsCountedOn g j
+old_counted number f g s t shows later bodies old counted = old_counted_by number number f g s t shows later bodies old counted
 
 -- each has what it had, where it stands
 pub starts_old : (s : State) (m : ℕ) (k : Conn) → count_by (is_conn m) s.conns ≤ 1 → conn s m ≡ Some k → AllConns (HasOld m (came_of k)) s.conns

@@ -16,3 +16,9 @@ pub mod CountedOver
 pub mod CountedTicks
 pub mod CountedReads
 pub mod CountedBreaks
+pub mod NumbersOnce
+pub mod NamesFew
+pub mod NamesFirst
+pub mod Begun
+pub mod CountedWrites
+pub mod CountedEnds

@@ -2,3 +2,8 @@ pub mod Stays
 pub mod Laws
 pub mod Heads
 pub mod Counts
+pub mod Apart
+pub mod MayNote
+pub mod Begins
+pub mod Writes
+pub mod Ends

@@ -9,6 +9,7 @@ ghost use Rattle.pp_given_law.specs.Counts.{
   CountedAsStopped,
   CountedAsTicked,
 };
+ghost use Rattle.pp_given_law.specs.Begins.{CountedAsRepliesBegin};
 ghost use Rattle.pp_given_law.specs.Laws.{CountedOverWaits};
 
 /// As much as came, over a wait.
@@ -54,4 +55,9 @@ pub fn what_is_dropped_stays_counted_as_a_client_is_read()
 /// Behind the connection of an origin that breaks.
 pub fn what_is_dropped_stays_counted_as_a_connection_breaks()
     ensures { CountedAsBroken }
+{}
+
+/// As replies begin at the end of a turn.
+pub fn what_is_dropped_stays_counted_as_replies_begin()
+    ensures { CountedAsRepliesBegin }
 {}

@@ -1,4 +1,5 @@
 // Memory was refused for nobody.
+ghost use Rattle.pp_given_law.specs.Begins.{GivenAsRepliesBegin};
 ghost use Rattle.pp_given_law.specs.Laws.{GivenBehindEvents, GivenInEvents, GivenOverWaits};
 
 /// Over a wait.
@@ -14,4 +15,9 @@ pub fn nobody_is_refused_in_events()
 /// And behind it.
 pub fn nobody_is_refused_behind_events()
     ensures { GivenBehindEvents }
+{}
+
+/// And as replies begin at the end of a turn.
+pub fn nobody_is_refused_as_replies_begin()
+    ensures { GivenAsRepliesBegin }
 {}

@@ -1,4 +1,5 @@
 // What each client is to be said first.
+ghost use Rattle.pp_given_law.specs.Begins.{TextsAsRepliesBegin};
 ghost use Rattle.pp_given_law.specs.Laws.{TextsBehindEvents, TextsInEvents, TextsOverWaits};
 
 /// It has room over a wait.
@@ -14,4 +15,9 @@ pub fn texts_have_room_in_events()
 /// And behind it.
 pub fn texts_have_room_behind_events()
     ensures { TextsBehindEvents }
+{}
+
+/// And as replies begin at the end of a turn, of bodies whose length has 64 bits.
+pub fn texts_have_room_as_replies_begin()
+    ensures { TextsAsRepliesBegin }
 {}

@@ -17,7 +17,7 @@ use Rattle.pp_grown_law.proofs.Less.{there_of}
 
 -- ---- a chunk is out
 
-apart_of : (p w : ℕ × ℕ) → ((p.0 == w.0) && (p.1 == w.1)) ≡ false → Apart p w
+pub apart_of : (p w : ℕ × ℕ) → ((p.0 == w.0) && (p.1 == w.1)) ≡ false → Apart p w
 apart_of p w other c at = by (is_at p c) refl
   where
     by : (b : Bool) → is_at p c ≡ b → b ≡ false

@@ -35,7 +35,7 @@ leavings_bring_nothing p q shelf but = record {
 
 -- ---- all that is done behind an event
 
-given_stays : (ns : List ℕ) (p : Parts) → (all_given_up ns p).cache ≡ p.cache
+pub given_stays : (ns : List ℕ) (p : Parts) → (all_given_up ns p).cache ≡ p.cache
 unfolding all_given_up
 given_stays [] p = refl
 given_stays (n ∷ ns) p = by (is_useless p.cache p.seats (entry_of n p.flow)) (given_stays ns (ended n p)) (given_stays ns p)

@@ -7,15 +7,16 @@ use Rattle.pp_cache.specs.Memory.{is_in_memory}
 use Rattle.pp_keeping.specs.Runs.{full, full_run}
 use Rattle.pp_keeps_law.proofs.Held.{up_to, up_to_true}
 use Rattle.pp_keeps_law.specs.All.{AreAmong, HasNextRun}
+use Rattle.pp_law.specs.Lists.{Bytes}
 use Rattle.pp_laws.proofs.Tests.{below}
 use Rattle.pp_objects.specs.Instances.{Instance, in_slot, is_same_id, is_there, total_at, total_of}
 use Rattle.pp_objects.specs.declared.id.ObjectId.{ObjectId}
 use Rattle.pp_seats.specs.Courses.{is_same_version}
 use Rattle.pp_state.specs.Bringing.{instance_of}
 use Rattle.pp_state.specs.declared.state.State.{State as Turn}
-use Rattle.pp_store.specs.Kept.{KeptMap, kept_of}
+use Rattle.pp_store.specs.Kept.{Kept as KeptRow, KeptMap, kept_of}
 use Rattle.pp_valid.specs.declared.version.Version.{Version}
-use Rattle.pp_grown_law.specs.Less.{BringsNone, BringsNothing, IsUnkept, NoneComesOfLess, bare, was}
+use Rattle.pp_grown_law.specs.Less.{BringsNone, IsUnkept, NoneComesOfLess, bare, was}
 
 -- ---- the first offset that is not held
 
@@ -77,7 +78,7 @@ full_is p id i from found =
 
 -- ---- all
 
-module _ (p q : Turn) (shelf new : KeptMap) (brings : BringsNothing p q shelf new) (id : ObjectId) (j : Instance) (found : instance_of id q.cache.instances ≡ Some j) (next : HasNextRun q new id j) where
+module _ (p q : Turn) (shelf new : KeptMap) (run : q.run ≡ p.run) (kept : (key : Bytes) (k : KeptRow) → kept_of key new ≡ Some k → kept_of key shelf ≡ Some k) (id : ObjectId) (j : Instance) (found : instance_of id q.cache.instances ≡ Some j) (next : HasNextRun q new id j) where
   abbrev n : ℕ
   n = j.version.length
 
@@ -99,13 +100,13 @@ module _ (p q : Turn) (shelf new : KeptMap) (brings : BringsNothing p q shelf ne
       let more : full (min (4096 * q.run) (n - from)) (missing_from id.slot n from p.cache.chunks - from) ≡ Some next.len =
       full_more (min (4096 * q.run) (n - from)) (missing_from id.slot n from q.cache.chunks - from) (missing_from id.slot n from p.cache.chunks - from) next.len (omega (arith, less)) run_in in
       let same : full (min (4096 * p.run) (i.version.length - from)) (missing_from id.slot i.version.length from p.cache.chunks - from) ≡ Some next.len =
-      ap₂ (λ (r : ℕ) (v : Version). full (min (4096 * r) (v.length - from)) (missing_from id.slot v.length from p.cache.chunks - from)) (sym brings.run) version ∙ more in
+      ap₂ (λ (r : ℕ) (v : Version). full (min (4096 * r) (v.length - from)) (missing_from id.slot v.length from p.cache.chunks - from)) (sym run) version ∙ more in
       record {
         kept = next.kept;
         len = next.len;
         next = record {
           row = row;
-          there = brings.kept i.key next.kept (ap (λ k. kept_of k new) key ∙ next.next.there);
+          there = kept i.key next.kept (ap (λ k. kept_of k new) key ∙ next.next.there);
           same = ap (λ (v : Version). is_same_version v next.kept.entry.version) version ∙ next.next.same;
           full = full_is p id i from there ∙ same;
         };
@@ -122,9 +123,9 @@ module _ (p q : Turn) (shelf new : KeptMap) (brings : BringsNothing p q shelf ne
       off true isnt = absurd (isnt refl)
       off false isnt = refl
 
-  among_so : (ids : List ObjectId) → AreAmong ids p shelf → BringsNone p q new id j → list_any (is_same_id id) ids ≡ true
+  pub among_so : (ids : List ObjectId) → AreAmong ids p shelf → BringsNone p q new id j → list_any (is_same_id id) ids ≡ true
   among_so ids among (was i there row key version bytes) = among id i there (was_so i there row key version bytes)
   among_so ids among (bare never) = absurd (none_bare never)
 
 pub none_comes_of_less : NoneComesOfLess
-none_comes_of_less ids p q shelf new brings among id j found next = among_so p q shelf new brings id j found next ids among (brings.rows id j found next.next.row)
+none_comes_of_less ids p q shelf new brings among id j found next = among_so p q shelf new brings.run brings.kept id j found next ids among (brings.rows id j found next.next.row)

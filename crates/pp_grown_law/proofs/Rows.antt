@@ -19,7 +19,7 @@ use Rattle.pp_grown_law.specs.Rows.{RetiringsBringNothing, RowsBringNothing}
 
 -- ---- chunks
 
-filter_out : {A : Type 0} (p q : A → Bool) (xs : List A) → ((x : A) → q x ≡ true → p x ≡ false) → filter p (filter q xs) ≡ []
+pub filter_out : {A : Type 0} (p q : A → Bool) (xs : List A) → ((x : A) → q x ≡ true → p x ≡ false) → filter p (filter q xs) ≡ []
 filter_out p q [] never = refl
 filter_out {A} p q (x ∷ xs) never = by (q x) refl (filter_out p q xs never)
   where
@@ -27,7 +27,7 @@ filter_out {A} p q (x ∷ xs) never = by (q x) refl (filter_out p q xs never)
     by true is rest = ap (λ (c : Bool). cond c (x ∷ filter p (filter q xs)) (filter p (filter q xs))) (never x is) ∙ rest
     by false is rest = rest
 
-filter_kept : {A : Type 0} (p q : A → Bool) (xs : List A) → ((x : A) → p x ≡ true → q x ≡ true) → filter p (filter q xs) ≡ filter p xs
+pub filter_kept : {A : Type 0} (p q : A → Bool) (xs : List A) → ((x : A) → p x ≡ true → q x ≡ true) → filter p (filter q xs) ≡ filter p xs
 filter_kept p q [] all = refl
 filter_kept {A} p q (x ∷ xs) all = by (q x) refl (filter_kept p q xs all)
   where
@@ -39,7 +39,7 @@ filter_kept {A} p q (x ∷ xs) all = by (q x) refl (filter_kept p q xs all)
     by true is rest = ap (λ (ys : List A). cond (p x) (x ∷ ys) ys) rest
     by false is rest = rest ∙ sym (ap (λ (c : Bool). cond c (x ∷ filter p xs) (filter p xs)) (off (p x) refl is))
 
-held_without : (slot o owner : ℕ) (cs : List Chunk) → is_in_memory slot o (without_owner owner cs) ≡ true → is_in_memory slot o cs ≡ true
+pub held_without : (slot o owner : ℕ) (cs : List Chunk) → is_in_memory slot o (without_owner owner cs) ≡ true → is_in_memory slot o cs ≡ true
 held_without slot o owner cs held = by (slot == owner) refl
   where
     by : (b : Bool) → (slot == owner) ≡ b → is_in_memory slot o cs ≡ true

@@ -26,37 +26,43 @@ use Rattle.pp_grown_law.specs.Kept.{RowsAreKept}
 record IsBeside (p q : Turn) : Type 0 where
   names : q.cache.outdated ≡ p.cache.outdated
   rows : q.cache.instances ≡ p.cache.instances
+  astray : q.is_astray ≡ p.is_astray
+  size : q.cache.size ≡ p.cache.size
 
 drafted_beside : (id : ObjectId) (n : ℕ) (p : Turn) (r : Result (Unit {0}) KeepFault) → IsBeside p (with_outcome id (drafted_to (Some r) n) p)
-drafted_beside id n p (Ok done) = record { names = refl; rows = refl }
-drafted_beside id n p (Err Closed) = record { names = refl; rows = refl }
-drafted_beside id n p (Err Full) = record { names = refl; rows = refl }
-drafted_beside id n p (Err TooLong) = record { names = refl; rows = refl }
-drafted_beside id n p (Err NoDraft) = record { names = refl; rows = refl }
-drafted_beside id n p (Err NotNamed) = record { names = refl; rows = refl }
-drafted_beside id n p (Err OutOfMemory) = record { names = refl; rows = refl }
+drafted_beside id n p (Ok done) = record { names = refl; rows = refl; astray = refl; size = refl }
+drafted_beside id n p (Err Closed) = record { names = refl; rows = refl; astray = refl; size = refl }
+drafted_beside id n p (Err Full) = record { names = refl; rows = refl; astray = refl; size = refl }
+drafted_beside id n p (Err TooLong) = record { names = refl; rows = refl; astray = refl; size = refl }
+drafted_beside id n p (Err NoDraft) = record { names = refl; rows = refl; astray = refl; size = refl }
+drafted_beside id n p (Err NotNamed) = record { names = refl; rows = refl; astray = refl; size = refl }
+drafted_beside id n p (Err OutOfMemory) = record { names = refl; rows = refl; astray = refl; size = refl }
 
 sealed_beside : (id : ObjectId) (p : Turn) (r : Result ℕ DiskFault) → IsBeside p (with_outcome id (sealed_to (Some r)) p)
-sealed_beside id p (Ok extent) = record { names = refl; rows = refl }
-sealed_beside id p (Err fault) = record { names = refl; rows = refl }
+sealed_beside id p (Ok extent) = record { names = refl; rows = refl; astray = refl; size = refl }
+sealed_beside id p (Err fault) = record { names = refl; rows = refl; astray = refl; size = refl }
 
 -- ---- behind one
 
 pub record RunStays (x y : Kept) : Type 0 where
   pub names : y.state.cache.outdated ≡ x.state.cache.outdated
   pub rows : y.state.cache.instances ≡ x.state.cache.instances
+  pub astray : y.state.is_astray ≡ x.state.is_astray
+  pub size : y.state.cache.size ≡ x.state.cache.size
   pub shelf : RowsAreKept x.state.cache.instances → EachIsAsKept x.outside.shelf → EachIsAsKept y.outside.shelf
 
 stays_as : (x y : Kept) (p : Turn) (new : KeptMap) → y.state ≡ p → y.outside.shelf ≡ new → IsBeside x.state p → (RowsAreKept x.state.cache.instances → EachIsAsKept x.outside.shelf → EachIsAsKept new) → RunStays x y
 stays_as x y p new state shelf_is beside each = record {
   names = ap (λ (q : Turn). q.cache.outdated) state ∙ beside.names;
   rows = ap (λ (q : Turn). q.cache.instances) state ∙ beside.rows;
+  astray = ap (λ (q : Turn). q.is_astray) state ∙ beside.astray;
+  size = ap (λ (q : Turn). q.cache.size) state ∙ beside.size;
   shelf = λ rows all. subst EachIsAsKept (sym shelf_is) (each rows all);
 }
 
 module _ (id : ObjectId) (room : ℕ) (x y : Kept) (goes : Bool) (kr : KeepsRun id room x y goes) where
   still : y.state ≡ x.state → y.outside.shelf ≡ x.outside.shelf → RunStays x y
-  still state shelf_is = stays_as x y x.state x.outside.shelf state shelf_is (record { names = refl; rows = refl }) (λ rows all. all)
+  still state shelf_is = stays_as x y x.state x.outside.shelf state shelf_is (record { names = refl; rows = refl; astray = refl; size = refl }) (λ rows all. all)
 
   idle_stays : IsIdle x.outside y.outside kr.outcome → RunStays x y
   idle_stays idle = still (kr.state ∙ ap (λ o. with_outcome id o x.state) idle.none) idle.still.shelf

@@ -1,6 +1,13 @@
+pub mod Grown
+pub mod Handled
 pub mod Kept
 pub mod Leaving
 pub mod Left
 pub mod Less
 pub mod Noted
+pub mod Numbered
+pub mod Reads
 pub mod Rows
+pub mod Settled
+pub mod Sized
+pub mod Turns

@@ -9,7 +9,7 @@ use Rattle.pp_joints_law.proofs.Asks.{Can, change_first, found_any, none_any}
 use Rattle.pp_places_law.proofs.Entries.{askable_found, askable_without}
 use Rattle.pp_places_law.specs.Around.{AreAskable, IsAskable}
 
-all_changed : (n : ℕ) (f : Entry → Entry) (xs : List Entry) → ((x : Entry) → IsAskable x → IsAskable (f x)) → AreAskable xs → AreAskable (changed n f xs)
+pub all_changed : (n : ℕ) (f : Entry → Entry) (xs : List Entry) → ((x : Entry) → IsAskable x → IsAskable (f x)) → AreAskable xs → AreAskable (changed n f xs)
 all_changed n f [] each all = tt
 all_changed n f (x ∷ xs) each all = by (is_number n x) (all_changed n f xs each all.1)
   where

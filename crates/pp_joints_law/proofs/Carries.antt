@@ -93,7 +93,7 @@ its_number n i (first ∷ seats) seat there here = by (first.client.id == n) ref
     by true is found rest = ap (λ (o : Seat). o.client.id) (sym (some_is first seat (ap (λ (k : ℕ). slice_get (first ∷ seats) k) (some_is 0 i found) ∙ here))) ∙ is_same first.client.id n is
     by false off found rest = later (place_of n (numbers_of seats)) refl found rest
 
-same_added : (old new : Option Log) → new ≡ old → AppendsAll old new (λ l. [])
+pub same_added : (old new : Option Log) → new ≡ old → AppendsAll old new (λ l. [])
 same_added old new same = record { was = λ l is. (l, sym same ∙ is, sym (append-nil l)) }
 
 read_added : (o : Option Seat) (most i : ℕ) (links : List Link) (x z : Sides) (old new : Option Log) (now hs : Log) → new ≡ Some now → AppendsAll old new (λ l. hs) → ((seat : Seat) (l : Log) → o ≡ Some seat → old ≡ Some l → side_of seat.client.id l ≡ Some OfClient)
@@ -126,7 +126,7 @@ module _ (terms : List Term) (log : Log) (number : ℕ → ℕ) (shelf : KeptMap
   heard_same_seats : heard_hears.roused.state.seats.items ≡ heard_woken.state.seats.items
   heard_same_seats = ap (λ (d : Desk). d.state.seats.items) heard_hears.rouses.rest
 
-  heard_side : (seat : Seat) (l : Log) → slice_get heard_hears.roused.state.seats.items i ≡ Some seat → x.log ≡ Some l → side_of seat.client.id l ≡ Some OfClient
+  pub heard_side : (seat : Seat) (l : Log) → slice_get heard_hears.roused.state.seats.items i ≡ Some seat → x.log ≡ Some l → side_of seat.client.id l ≡ Some OfClient
   heard_side seat l here at =
       ap (λ (n : ℕ). side_of n l) (its_number id i heard_woken.state.seats.items seat heard_placed (ap (λ (ss : List Seat). slice_get ss i) (sym heard_same_seats) ∙ here))
       ∙ its_side x.log x.moving.top x.moving.links id OfClient l link (client_link id i (numbers_of x.moving.desk.state.seats.items) x.moving.links place before.stands.opened.clients) at

@@ -228,7 +228,7 @@ last_longer : (names : List Bytes) (y : Bytes) → length (names ++ y ∷ []) �
 last_longer [] y = omega arith
 last_longer (x ∷ xs) y = omega (arith, last_longer xs y)
 
-one_longer : (other : Bytes) (names : List Bytes) → length (outdated_by other names) ≤ length names + 1
+pub one_longer : (other : Bytes) (names : List Bytes) → length (outdated_by other names) ≤ length names + 1
 one_longer other names = by (list_any (bytes_eq other) names || nat_le 2048 (length names))
   where
     by : (b : Bool) → length (cond b names (names ++ other ∷ [])) ≤ length names + 1

@@ -69,17 +69,17 @@ charge-clears : {o : State} (cost : Course → Course) (e : Exchange) (s : State
 unfolding charge
 charge-clears cost e s h = give_up_row-clears e _ (on_client_of-clears e _ s h)
 
-lose_attempt-clears : {o : State} (e : Exchange) (s : State) → Clears o s → Clears o (lose_attempt e s)
+pub lose_attempt-clears : {o : State} (e : Exchange) (s : State) → Clears o s → Clears o (lose_attempt e s)
 unfolding lose_attempt
 lose_attempt-clears e s h = charge-clears (lost_one (attempts_of e)) e s h
 
-fail-clears : {o : State} (e : Exchange) (s : State) → Clears o s → Clears o (fail e s)
+pub fail-clears : {o : State} (e : Exchange) (s : State) → Clears o s → Clears o (fail e s)
 unfolding fail
 fail-clears e s h = charge-clears _ e s h
 
 -- ---- a connection is gone
 
-end_exchange-clears : {o : State} (n : ℕ) (s : State) → Clears o s → Clears o (end_exchange n s)
+pub end_exchange-clears : {o : State} (n : ℕ) (s : State) → Clears o s → Clears o (end_exchange n s)
 unfolding end_exchange
 end_exchange-clears n s h = clears (facts_of h)
 
@@ -91,7 +91,7 @@ lose_place-clears : {o : State} (counts : Bool) (e : Exchange) (s : State) → C
 unfolding lose_place
 lose_place-clears counts e s h = when counts (leave_place-clears e _ (lose_attempt-clears e s h)) (leave_place-clears e s h)
 
-close_conn-clears : {o : State} (counts : Bool) (k : Conn) (s : State) → Clears o s → Clears o (close_conn counts k s)
+pub close_conn-clears : {o : State} (counts : Bool) (k : Conn) (s : State) → Clears o s → Clears o (close_conn counts k s)
 unfolding close_conn
 close_conn-clears counts k s h = each_exchange-clears (lose_place (counts && not k.has_brought)) (λ e t ht. lose_place-clears (counts && not k.has_brought) e t ht) k.line _ (on_conn-clears k.number _ s h)
 
@@ -193,7 +193,7 @@ close_this-clears : {o : State} (n : ℕ) (s : State) → Clears o s → Clears 
 unfolding close_this
 close_this-clears n s h = each_of (conn s n) h (λ k. close_conn-clears true k s h)
 
-finish-clears : {o : State} (k : Conn) (e : Exchange) (a : Answer) (s : State) → Clears o s → Clears o (finish k e a s)
+pub finish-clears : {o : State} (k : Conn) (e : Exchange) (a : Answer) (s : State) → Clears o s → Clears o (finish k e a s)
 unfolding finish
 finish-clears {o} k e a s h = when (may_go_on e a.head) done (close_this-clears k.number _ done)
   where

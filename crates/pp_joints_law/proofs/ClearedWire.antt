@@ -83,7 +83,7 @@ unless : (b : Bool) (k : ℕ) (x : Sides) → ClearsIn x.parts (closed_unless b 
 unless true k x = clears_stay x.parts x.parts (itself x.parts)
 unless false k x = clears_closed k true x
 
-clears_whole : (k : ℕ) (x : Sides) → ClearsIn x.parts (response_whole k x).parts
+pub clears_whole : (k : ℕ) (x : Sides) → ClearsIn x.parts (response_whole k x).parts
 clears_whole k x = by (option_and_then (λ number. entry_of number x.parts.flow) (first_on k x.parts))
   where
     by : (o : Option Entry) → ClearsIn x.parts (whole_for k o x).parts

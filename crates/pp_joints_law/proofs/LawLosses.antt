@@ -28,7 +28,7 @@ less_then s t u one two = record { settings = two.settings ∙ one.settings; for
 
 -- ---- a name is closed
 
-closes_so : (name : Bytes) (s : State) → s.phase ≡ Handling → unread name s ≡ paid (close_name name s)
+pub closes_so : (name : Bytes) (s : State) → s.phase ≡ Handling → unread name s ≡ paid (close_name name s)
 unfolding unread lose_in_opening close_name
 closes_so name s at =
     ap (λ (b : Bool). paid (elim b as (λ c. State) [ true ↦ lose_entry name (close_name name s) | false ↦ close_name name s ]))

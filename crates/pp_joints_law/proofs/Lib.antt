@@ -1,6 +1,9 @@
 pub mod Askables
 pub mod Asks
 pub mod Awaited
+pub mod BytesBehind
+pub mod BytesHeads
+pub mod BytesSteps
 pub mod CallsBehind
 pub mod CarriedOn
 pub mod Carries
@@ -24,9 +27,15 @@ pub mod LawLosses
 pub mod Left
 pub mod LoadedSo
 pub mod Losses
+pub mod Marked
 pub mod Names
 pub mod Near
 pub mod NotedBehind
+pub mod NotedCome
+pub mod NotedHeads
+pub mod NotedPassed
+pub mod NotedRefused
+pub mod NotedRoom
 pub mod OpenedBreaks
 pub mod OpenedCrash
 pub mod OpenedFolder
@@ -50,5 +59,7 @@ pub mod Settled
 pub mod Settlings
 pub mod Stale
 pub mod Steady
+pub mod TiedData
+pub mod TiedEnds
 pub mod ToLoad
 pub mod Unnoted

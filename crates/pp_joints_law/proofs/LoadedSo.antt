@@ -88,6 +88,15 @@ added_then old between new now hs first told all one w =
     let same : b.0 ≡ a.0 = some_same b.0 a.0 (sym b.1 ∙ a.1) in
     drop_front a.0 hs (first ++ w.wrote) (sym a.2 ∙ w.is ∙ ap (λ (l : Log). l ++ w.wrote) b.2 ∙ append_assoc b.0 first w.wrote ∙ ap (λ (l : Log). l ++ (first ++ w.wrote)) same)
 
+-- the note of the chunk, and then what the write adds
+pub record HasReadBack (between new : Option Log) (now hs : Log) : Type 0 where
+  pub key : Bytes
+  pub tag : Bytes
+  pub total : ℕ
+  pub index : ℕ
+  pub wrote : WroteThen between new now
+  pub is : hs ≡ Noted (Loaded key tag total index) ∷ wrote.wrote
+
 module _ (terms : List Term) (before : Log) (number : ℕ → ℕ) (id i : ℕ) (x y : Turning) (seat : Seat) (next : Next) (s : State) (told_before : x.log ≡ Some before) (obeys : Obeys terms s before) (stands : StandsAtEvent number Handling (WriteTo id) x.moving s) (may : MayLoad id i x y seat next s) (says : SaysAt i x y)
     (mid_bounded : IsBounded says.says.loaded.state.cache) (owed : StandsOwed x.shelf x.moving s) (few : HasFew y.moving) (it : HasLed number x y s) where
   abbrev old : Desk
@@ -360,6 +369,25 @@ module _ (terms : List Term) (before : Log) (number : ℕ → ℕ) (id i : ℕ) 
   by (Some (Ok count)) answered gives told cause map_is takes = was_read count told gives cause map_is takes
   by (Some (Err DiskFault)) answered gives told cause map_is takes = absurd (never_lost told takes)
   by (Some (Err (Short wanted got))) answered gives told cause map_is takes = absurd (cause.2.at on.log on.told)
+
+  -- ---- what came to the log
+
+  pub read_back : HasReadBack between y.log may.log it.log
+  read_back = by_log chunk.answer chunk.answered chunk.told chunk.cause chunk.is
+    where
+      by_log : (a : Answer) → is_some a ≡ keeps_byte (4096 * index) (kept_of k.key x.shelf) → AppendsAll x.log between (λ l. load_log a k.key k.version index) → IfSome a (LoadCause between x.faults says.says.count (chunk_len (row_of k.key x.shelf).entry.version.length index)) → TakesChunk a chunk.out index next.source p q
+          → HasReadBack between y.log may.log it.log
+      by_log None answered told cause takes = absurd (let both : false ≡ true = answered ∙ ap (λ (o : Option Kept). keeps_byte (4096 * index) o) r.there ∙ r.keeps in cc both)
+      by_log (Some (Ok count)) answered told cause takes = record {
+        key = k.key;
+        tag = k.version.tag;
+        total = k.version.length;
+        index = index;
+        wrote = wrote;
+        is = added_then x.log between y.log may.log it.log (loaded_note k.key k.version index) may.told it.handled.told told wrote;
+      }
+      by_log (Some (Err DiskFault)) answered told cause takes = absurd (never_lost told takes)
+      by_log (Some (Err (Short wanted got))) answered told cause takes = absurd (cause.2.at on.log on.told)
 
   loads_so : CarriesOn y.shelf y.moving it.handled.handled.handled
   loads_so = by chunk.answer chunk.answered chunk.bytes chunk.told chunk.cause chunk.map chunk.is

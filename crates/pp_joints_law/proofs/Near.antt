@@ -5,16 +5,18 @@ use Rattle.pp_cache_law.proofs.Numbers.{some_is}
 use Rattle.pp_decides_law.proofs.Filled.{closed_in_turn}
 use Rattle.pp_decides_law.proofs.FollowingOn.{has_source, is_next}
 use Rattle.pp_decides_law.specs.Regains.{AllFollow}
+use Rattle.pp_evicting_law.specs.Evicting.{IsDoneWithEvent, MayLeave}
 use Rattle.pp_flow.specs.Changes.{entry_of}
 use Rattle.pp_flow.specs.Entries.{Span}
 use Rattle.pp_flow.specs.declared.entry.Entry.{Entry}
 use Rattle.pp_flow_law.proofs.Standing.{IsShown, is_shown}
 use Rattle.pp_flow_law.specs.Tables.{none_leaves}
-use Rattle.pp_joints_law.specs.Leaving.{MemoryMayBeLeft}
+use Rattle.pp_joints_law.specs.Leaving.{IsToLeave, MemoryMayBeLeft}
+use Rattle.pp_law.specs.Chunks.{floor}
 use Rattle.pp_law.specs.Connections.{anew, is_exchange}
 use Rattle.pp_law.specs.Replies.{is_regained, regained, regained_by}
 use Rattle.pp_law.specs.Stages.{bound_of, filled_of}
-use Rattle.pp_law.specs.State.{State, Bound, Client, Exchange, Term}
+use Rattle.pp_law.specs.State.{State, Bound, Client, Exchange, Instance, Term}
 use Rattle.pp_law.specs.Table.{Next, is_instance, next_of as next_by_law}
 use Rattle.pp_laws.proofs.Lists.{in_find}
 use Rattle.pp_laws.specs.Runs.{IsIn}
@@ -26,6 +28,7 @@ use Rattle.pp_laws_fields.proofs.Laws.{turns_keep_fields}
 use Rattle.pp_laws_turn.proofs.Laws.{sound_turns}
 use Rattle.pp_obeys.specs.Obeys.{Obeys}
 use Rattle.pp_peers.specs.declared.peers.Peer.{Peer}
+use Rattle.pp_proxy.specs.Moving.{Moving}
 use Rattle.pp_seats.specs.Follows.{next_of}
 use Rattle.pp_seats.specs.declared.seat.Next.{Next as SeatNext}
 use Rattle.pp_seats.specs.declared.seat.Seat.{Seat}
@@ -63,17 +66,32 @@ next_anew s c = by (is_regained s c)
 short_enough : (at to len : ℕ) → at < to → to ≤ len → len ≤ 2 ^ 30 → at / 4096 < 2 ^ 32
 short_enough at to len some within short = omega (arith, some, within, short)
 
-module _ (terms : List Term) (log : Log) (number : ℕ → ℕ) (peers : List Peer) (p : Turn) (h : State) (obeys : Obeys terms (regained h) log) (shows : ShowsTurn number none_leaves peers p h) (follow : AllFollow p) where
+-- a state of the same clients, in which attempts count anew, and of the same exchanges and instances
+pub record IsOfSame (h r : State) : Type 0 where
+  pub clients : r.clients ≡ map (regained_by h) h.clients
+  pub exchanges : r.exchanges ≡ h.exchanges
+  pub instances : r.instances ≡ h.instances
+
+of_itself : (h : State) → IsOfSame h (regained h)
+unfolding regained
+of_itself h = record { clients = refl; exchanges = refl; instances = refl }
+
+-- beside a log that obeys the law with such a one
+module _ (terms : List Term) (log : Log) (number : ℕ → ℕ) (peers : List Peer) (p : Turn) (h r : State) (obeys : Obeys terms r log) (alike : IsOfSame h r) (shows : ShowsTurn number none_leaves peers p h) (follow : AllFollow p) where
   -- ---- the next byte of each client
 
   source_short : (n : Next) (id : ℕ) → find (is_instance id) h.instances ≡ Some n.source → n.source.version.length ≤ 2 ^ 30
+  source_short n id there =
+      ((turns_keep_fields terms r log obeys).rows n.source (in_find (is_instance id) n.source r.instances (ap (λ (is : List Instance). find (is_instance id) is) alike.instances ∙ there)).0).short
+
+  next_alike : (c : Client) → next_by_law r c ≡ next_by_law (regained h) c
   unfolding regained
-  source_short n id there = ((turns_keep_fields terms (regained h) log obeys).rows n.source (in_find (is_instance id) n.source h.instances there).0).short
+  next_alike c = ap (λ (is : List Instance). next_by_law (record r { instances = is }) c) alike.instances
 
   next_near : (seat : Seat) (c : Client) (x : SeatNext) (n : Next) → IsIn c h.clients → next_by_law h c ≡ Some n → IsNext number p.cache h x n → x.at / 4096 < 2 ^ 32
-  unfolding regained
   next_near seat c x n there law next =
-      let its = (turns_are_decided terms (regained h) log obeys).next (regained_by h c) n (in_mapped (regained_by h) c h.clients there) (next_anew h c ∙ law) in
+      let its =
+      (turns_are_decided terms r log obeys).next (regained_by h c) n (subst (λ (cs : List Client). IsIn (regained_by h c) cs) (sym alike.clients) (in_mapped (regained_by h) c h.clients there)) (next_alike (regained_by h c) ∙ next_anew h c ∙ law) in
       subst (λ (at : ℕ). at / 4096 < 2 ^ 32) (sym next.at) (short_enough n.at n.to n.source.version.length its.0 its.1 (source_short n (number x.source.life) next.known))
 
   pub near : (i : ℕ) (seat : Seat) → slice_get p.seats.items i ≡ Some seat → IfSome (next_of seat) (λ n. n.at / 4096 < 2 ^ 32)
@@ -107,7 +125,6 @@ module _ (terms : List Term) (log : Log) (number : ℕ → ℕ) (peers : List Pe
   -- ---- what exchanges bring
 
   pub brought_near : (n : ℕ) (e : Entry) → entry_of n p.flow ≡ Some e → IfSome e.exchange.bound (λ b. b.1 / 4096 < 2 ^ 32)
-  unfolding regained
   brought_near n e at = by e.exchange.bound (bound_of one.known) refl (exchanges number e one.known one.shows).bound
     where
       one : IsShown number h n e
@@ -117,36 +134,36 @@ module _ (terms : List Term) (log : Log) (number : ℕ → ℕ) (peers : List Pe
       by None b is same = tt
       by (Some o) None is same = absurd same
       by (Some o) (Some b) is same =
-          subst (λ (m : ℕ). m / 4096 < 2 ^ 32) (sym same.1.next) (bounds_in_order terms (regained h) log obeys one.known b (in_find (is_exchange n) one.known h.exchanges one.there).0 is).near
+          subst (λ (m : ℕ). m / 4096 < 2 ^ 32) (sym same.1.next) (bounds_in_order terms r log obeys one.known b (in_find (is_exchange n) one.known r.exchanges (ap (λ (es : List Exchange). find (is_exchange n) es) alike.exchanges ∙ one.there)).0 is).near
 
   -- ---- how much there is
 
   pub few_clients : HasFewClients h
-  unfolding regained
-  few_clients = subst (λ (n : ℕ). n ≤ 256) (as_many h.clients) (sound_turns terms (regained h) log obeys).bounded.clients
+  few_clients = subst (λ (n : ℕ). n ≤ 256) (ap (λ (cs : List Client). length cs) alike.clients ∙ as_many h.clients) (sound_turns terms r log obeys).bounded.clients
     where
       as_many : (cs : List Client) → length (map (regained_by h) cs) ≡ length cs
       as_many [] = refl
       as_many (c ∷ cs) = ap (λ (n : ℕ). suc n) (as_many cs)
 
   pub few_bodies : HasFewBodies h
-  unfolding regained
-  few_bodies = (sound_turns terms (regained h) log obeys).bounded.bodies
+  few_bodies = subst (λ (es : List Exchange). HasFewBodies (record h { exchanges = es })) alike.exchanges (sound_turns terms r log obeys).bounded.bodies
 
   pub placeless : (e : Exchange) → IsIn e h.exchanges → e.asker ≡ None → e.place ≡ None → is_some (filled_of e) ≡ true
-  unfolding regained
-  placeless e there nobodys nowhere = ap is_some ((asks_told terms (regained h) log obeys).placeless e there nowhere nobodys).1
+  placeless e there nobodys nowhere = ap is_some ((asks_told terms r log obeys).placeless e (subst (λ (es : List Exchange). IsIn e es) (sym alike.exchanges) there) nowhere nobodys).1
 
-pub memory_may : MemoryMayBeLeft
-memory_may terms log number shelf x h obeys done carried to =
+pub memory_near : (terms : List Term) (log : Log) (number : ℕ → ℕ) (x : Moving) (h r : State) → Obeys terms r log → IsOfSame h r → IsDoneWithEvent number x h → x.desk.state.floor ≡ floor h → IsToLeave x h → MayLeave x h
+memory_near terms log number x h r obeys alike done floor_is to =
     let follow : AllFollow x.desk.state = λ i seat at going. (done.ready i seat at going).follows in
     record {
       forgotten = to.forgotten;
       evicting = to.evicting;
-      floor_is = carried.set.force.floor;
-      near = near terms log number x.desk.peers x.desk.state h obeys done.turn follow;
-      exchanges = brought_near terms log number x.desk.peers x.desk.state h obeys done.turn follow;
-      clients = few_clients terms log number x.desk.peers x.desk.state h obeys done.turn follow;
-      bodies = few_bodies terms log number x.desk.peers x.desk.state h obeys done.turn follow;
-      placeless = placeless terms log number x.desk.peers x.desk.state h obeys done.turn follow;
+      floor_is = floor_is;
+      near = near terms log number x.desk.peers x.desk.state h r obeys alike done.turn follow;
+      exchanges = brought_near terms log number x.desk.peers x.desk.state h r obeys alike done.turn follow;
+      clients = few_clients terms log number x.desk.peers x.desk.state h r obeys alike done.turn follow;
+      bodies = few_bodies terms log number x.desk.peers x.desk.state h r obeys alike done.turn follow;
+      placeless = placeless terms log number x.desk.peers x.desk.state h r obeys alike done.turn follow;
     }
+
+pub memory_may : MemoryMayBeLeft
+memory_may terms log number shelf x h obeys done carried to = memory_near terms log number x h (regained h) obeys (of_itself h) done carried.set.force.floor to

@@ -1,12 +1,16 @@
 pub mod Awaiting
 pub mod Behind
+pub mod BehindBytes
 pub mod BehindEnds
 pub mod BehindLoads
 pub mod BehindLosses
 pub mod BehindReads
 pub mod Carried
+pub mod DataTies
 pub mod Deciding
+pub mod EndsTie
 pub mod Handled
+pub mod HeadsNote
 pub mod Keeping
 pub mod Leaving
 pub mod Loading

@@ -1,5 +1,6 @@
 // What is carried stands behind events.
 ghost use Rattle.pp_joints_law.specs.Behind.{AcceptsCarry, ReachesCarry, StopsCarry, TicksCarry};
+ghost use Rattle.pp_joints_law.specs.BehindBytes.{OriginBytesCarry};
 ghost use Rattle.pp_joints_law.specs.BehindEnds.{OriginEndsCarry};
 ghost use Rattle.pp_joints_law.specs.BehindLoads.{LoadsCarry};
 ghost use Rattle.pp_joints_law.specs.BehindLosses.{LossesCarry, ReadsAreOwedSo, WritesAreOwedSo};
@@ -44,4 +45,9 @@ pub fn loads_of_chunks_carry()
 /// Behind the read of an origin that brings nothing of a response.
 pub fn ends_of_origins_carry()
     ensures carries { OriginEndsCarry }
+{}
+
+/// Behind the read of an origin that brings bytes.
+pub fn bytes_of_origins_carry()
+    ensures carries { OriginBytesCarry }
 {}

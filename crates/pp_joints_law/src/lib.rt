@@ -15,12 +15,17 @@
 //! `specs/Behind.antt`: behind Stop, a client that comes, a connection that was reached, and the clock, what is carried stands, and what
 //! leaves memory may leave it. `specs/BehindReads.antt` has the same behind the read of a client and a write to one for which nothing is read
 //! back before, behind the write to an origin, and where its connection breaks; `specs/BehindEnds.antt` behind the read of an origin that
-//! brings nothing of a response. `specs/BehindLosses.antt` has it where a read or a write is owed, and behind a write before which a chunk
-//! could not be read back; `specs/BehindLoads.antt` where it was, and `specs/Loading.antt` some of what the read of a chunk rests on. Where
-//! attempts are lost rows are cleared in the program and in the law, each for itself: that they are the same follows from what both show
-//! before and behind. `specs/Unnoted.antt`: none that left memory is left to be noted from there to the next wait.
+//! brings nothing of a response, `specs/BehindBytes.antt` behind one that brings bytes. `specs/BehindLosses.antt` has it where a read or a
+//! write is owed, and behind a write before which a chunk could not be read back; `specs/BehindLoads.antt` where it was, and
+//! `specs/Loading.antt` some of what the read of a chunk rests on. Where attempts are lost rows are cleared in the program and in the law,
+//! each for itself: that they are the same follows from what both show before and behind. `specs/Unnoted.antt`: none that left memory is
+//! left to be noted from there to the next wait.
 //!
-//! Not said: that what is carried stands behind the read of an origin that brings bytes.
+//! `specs/HeadsNote.antt`: of each head that comes on a connection, beside the row that is kept of its key, what is noted and what has to
+//! leave memory are the same in both behind it; `specs/DataTies.antt` has it behind data, and `specs/EndsTie.antt` where a response is whole,
+//! or is none.
+//!
+//! Not said: that they are so behind all of a read of an origin that brings bytes (ComesSo of `specs/BehindBytes.antt`), from moment to moment.
 //!
 //! To the layer above: each is the clause of a function that does nothing. It is one part of the proof that the program obeys the law.
 //!
@@ -31,6 +36,7 @@ mod awaiting; // to an event
 mod behind; // what is carried stands behind events
 mod deciding; // behind the disk
 mod handling; // behind an event
+mod heads; // what heads leave to be noted
 mod keeping; // before and behind the disk
 mod leaving; // what leaves memory
 mod loading; // before a chunk is read back
@@ -41,11 +47,12 @@ mod settling; // and what is carried
 
 pub use awaiting::turns_await_behind_waits;
 pub use behind::{
-    calls_of_clients_carry, calls_of_origins_carry, ends_of_origins_carry, loads_of_chunks_carry,
-    losses_of_chunks_carry, silent_events_carry, what_is_owed_carries,
+    bytes_of_origins_carry, calls_of_clients_carry, calls_of_origins_carry, ends_of_origins_carry,
+    loads_of_chunks_carry, losses_of_chunks_carry, silent_events_carry, what_is_owed_carries,
 };
 pub use deciding::turns_decide_behind_keepings;
 pub use handling::memory_is_left_behind_events;
+pub use heads::{heads_forget_as_the_law, heads_note_what_they_clear, heads_tie_as_they_come};
 pub use keeping::keepings_come_behind_what_leaves;
 pub use leaving::memory_may_be_left_behind_events;
 pub use loading::what_is_carried_may_be_read_back;

@@ -6,18 +6,21 @@ use Rattle.pp_law.specs.Connections.{exchange, is_exchange, is_outstanding}
 use Rattle.pp_law.specs.Lawful.{Lawful}
 use Rattle.pp_law.specs.Lists.{Bytes}
 use Rattle.pp_law.specs.Permits.{IsPermitted}
-use Rattle.pp_law.specs.State.{State, Conn, Exchange, Term, start}
+use Rattle.pp_law.specs.Responses.{got}
+use Rattle.pp_law.specs.State.{State, Answer, Conn, Exchange, Term, start}
 use Rattle.pp_laws.proofs.Lists.{in_find}
 use Rattle.pp_laws.proofs.Sound.{first_of}
 use Rattle.pp_laws.proofs.Tests.{number_same, same_number}
-use Rattle.pp_laws.specs.Runs.{state_after}
-use Rattle.pp_laws_lines.proofs.Lined.{Heads, Lined, facts_of}
+use Rattle.pp_laws.specs.Runs.{IsIn, state_after}
+use Rattle.pp_laws_lines.proofs.Lined.{Heads, IsPlain, Lined, facts_of}
 use Rattle.pp_laws_lines.proofs.LinedHeads.{got-lined}
 use Rattle.pp_laws_lines.proofs.LinedTurns.{come_to-lined}
+use Rattle.pp_laws_lines.proofs.Stands.{Since}
 use Rattle.pp_laws_lines.proofs.Stream.{Inv, asked_step, first, got_grown, got_over, is_plain, plain, quiet_step}
 use Rattle.pp_laws_pool.proofs.Along.{after_all-append, back_from}
 use Rattle.pp_laws_room.proofs.Coming.{by_coming}
 use Rattle.pp_laws_turn.proofs.Lifts.{obeying}
+use Rattle.pp_obeys.specs.Obeys.{Obeys}
 use Rattle.pp_world.specs.Log.{Log}
 use Rattle.pp_world.specs.declared.happening.Happening.{Happening}
 use Rattle.pp_world.specs.declared.happening.Happening.TheVariants.{Asked, Got}
@@ -65,11 +68,35 @@ to_first s o k (n ∷ others) is w = record { number = n; others = others; line 
         let found = in_find (is_exchange n) e s.exchanges there in
         ap (λ m. m == length e.text) (w.out e found.0 (same_number e.number n found.1 ∙ it)) ∙ number_same (length e.text)
 
-pub answers_to_firsts : AnswersAreToFirsts
-answers_to_firsts terms s log obeys k a i is = to_first s (w.firsts k.number) k k.line refl ((facts_of on).answers k a i is (λ but. cc but))
+-- the lines of each state that a lawful log may go on as from, by whoever it is whose response comes
+pub record LinedBy (s : State) : Type 0 where
+  pub since : Since
+  pub is_plain : IsPlain since
+  pub lines : Lined since s
+
+pub first_there : (s : State) (by : LinedBy s) (k : Conn) (a : Answer) → IsIn k s.conns → k.answer ≡ Some a → IsToFirst s k
+first_there s by k a i is = to_first s (by.since.firsts k.number) k k.line refl ((facts_of by.lines).answers k a i is (λ but. none_some (sym by.is_plain.but ∙ but)))
+  where
+    none_some : None ≡ Some k.number → ⊥
+    none_some both = cc both
+
+-- it stays so, however much is read of a connection
+pub got_lined : (more n : ℕ) (bytes : Bytes) (s : State) → LinedBy s → LinedBy (got more n bytes s)
+got_lined more n bytes s by =
+    let r = got-lined more n bytes s by.is_plain by.lines in
+    record { since = record by.since { firsts = r.firsts }; is_plain = record { gone = by.is_plain.gone; but = by.is_plain.but; kept = by.is_plain.kept }; lines = r.lines }
+
+pub lined_on : (terms : List Term) (s : State) (log : Log) → Obeys terms s log → LinedBy s
+lined_on terms s log obeys = record { since = at; is_plain = plainly; lines = obeying (Lined at) (by_coming (Lined at) (λ p t h. come_to-lined p t plainly h)) terms s log obeys w.inv.lines }
   where
     w : Behind terms log (state_after terms log)
     w = behind terms log obeys.lawful
 
-    on : Lined (plain terms log (state_after terms log).top w.firsts) s
-    on = obeying (Lined (plain terms log (state_after terms log).top w.firsts)) (by_coming (Lined (plain terms log (state_after terms log).top w.firsts)) (λ p t h. come_to-lined p t (is_plain terms log (state_after terms log).top w.firsts) h)) terms s log obeys w.inv.lines
+    at : Since
+    at = plain terms log (state_after terms log).top w.firsts
+
+    plainly : IsPlain at
+    plainly = is_plain terms log (state_after terms log).top w.firsts
+
+pub answers_to_firsts : AnswersAreToFirsts
+answers_to_firsts terms s log obeys k a i is = first_there s (lined_on terms s log obeys) k a i is

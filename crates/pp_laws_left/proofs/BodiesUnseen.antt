@@ -1,10 +1,11 @@
--- The law: where what nobody sees is dropped, what is passed for nobody, and has more of a body to ask, goes with its connection.
+-- Where what nobody sees is dropped, what is passed for nobody, and has more of a body to ask, goes with its connection.
 use Rattle.std.proofs.Common.{◌≡◌, refl, ◌==◌, ℕ, nat_lt, Bool, true, false, not, ◌&&◌, List, [], ◌∷◌, filter, map, cond, is_some, Option, Some, None, inl, inr, sym, subst, ap, ◌∙◌}
+use Rattle.pp_world.specs.Log.{Log}
 use Rattle.pp_law.specs.Connections.{close_conn, conn, each_conn, each_exchange, end_exchange, exchange, front_of_line, is_conn, is_exchange, leave_place, lose_place, may_ask_again, on_client_of, on_conn, on_exchange, unplaced, without_ask}
 use Rattle.pp_law.specs.Followers.{give_up_asks, is_useless_ask}
 use Rattle.pp_law.specs.Phases.{in_phase}
 use Rattle.pp_law.specs.Stages.{is_headed, is_through, on_passed}
-use Rattle.pp_law.specs.State.{State, Body, Pending as IsPending, Joining, Relaying, Dropping, Conn, Connecting, Exchange, Passed}
+use Rattle.pp_law.specs.State.{State, Term, Body, Pending as IsPending, Joining, Relaying, Dropping, Conn, Connecting, Exchange, Passed}
 use Rattle.pp_law.specs.Unseen.{came_of, drop_limit, drop_on, drop_unseen, is_unseen, is_worth_keeping}
 use Rattle.pp_laws.specs.Runs.{IsIn}
 use Rattle.pp_laws.proofs.Lists.{Changed, changed_at, in_change, in_filter, in_find, other, same}
@@ -12,12 +13,14 @@ use Rattle.pp_laws.proofs.Shrinks.{off}
 use Rattle.pp_laws.proofs.Sound.{conn_number}
 use Rattle.pp_laws.proofs.Tests.{number_same, same_number}
 use Rattle.pp_laws_bounds.proofs.Counts.{in_map_of}
+use Rattle.pp_laws_served.specs.Filling.{unseen_dropped}
 use Rattle.pp_laws_turn.specs.SoundTurn.{IsInLine}
 use Rattle.pp_laws_turn.proofs.Cases.{each_so}
 use Rattle.pp_laws_turn.proofs.Laws.{sound_turns}
 use Rattle.pp_laws_turn.proofs.View.{Holds, facts_of, holds}
-use Rattle.pp_laws_left.specs.Bodies.{UnseenBodiesGo, is_awaited}
-use Rattle.pp_laws_left.proofs.Bodies.{bodies_are_passed}
+use Rattle.pp_obeys.specs.Obeys.{Obeys}
+use Rattle.pp_laws_left.specs.Bodies.{AreBodiesOwned, is_awaited}
+use Rattle.pp_laws_left.proofs.BodiesPassed.{bodies_are_passed}
 use Rattle.pp_laws_left.proofs.Owned.{Owned, no_test, none_but}
 use Rattle.pp_laws_left.proofs.OwnedEnds.{owned_on}
 use Rattle.pp_laws_left.proofs.OwnedOver.{find_some}
@@ -179,14 +182,14 @@ walk (n ∷ ns) t own h = walk ns _ (each_so (conn t n) (λ none. own) (λ k fou
         cc both)
     by (Some k) found = step n ns k t found own h
 
--- ---- the law
+-- ---- all of it
 
 abbrev is_owned_in : Option ℕ → Bool
 is_owned_in o = is_some o
 
-pub unseen_bodies_go : UnseenBodiesGo
+pub awaited_go : (terms : List Term) (s : State) (log : Log) → Obeys terms s log → s.is_stopped ≡ false → ((e : Exchange) → IsIn e s.exchanges → (e.body_left == 0) ≡ false → is_awaited e.body ≡ true) → AreBodiesOwned (unseen_dropped s)
 unfolding drop_unseen give_up_asks
-unseen_bodies_go terms s log obeys runs awaited e i placed left = by e.asker refl
+awaited_go terms s log obeys runs awaited e i placed left = by e.asker refl
   where
     u : State
     u = in_phase Connecting s
@@ -202,7 +205,7 @@ unseen_bodies_go terms s log obeys runs awaited e i placed left = by e.asker ref
           number = in_map_of conn_number l.place s.conns l.there;
           line = t.by_itself l.place x l.there j l.here (t.bodies x j bad.left);
           through = bodies_are_passed terms s log obeys x j bad.left;
-          awaited = awaited x j bad.left bad.nobody;
+          awaited = awaited x j bad.left;
         }
 
     none : Alone [] (drop_unseen (in_phase Connecting s))

@@ -226,7 +226,7 @@ head_piece-got {At} n k bytes s at there number quiet h =
 
 -- ---- one piece behind the other
 
-next_piece-got : {At : Type 0} (n : ℕ) (k : Conn) (bytes : Bytes) (s : State) → At → IsIn k s.conns → k.number ≡ n → GotAt At n s → GotAt At n (next_piece k bytes s).state
+pub next_piece-got : {At : Type 0} (n : ℕ) (k : Conn) (bytes : Bytes) (s : State) → At → IsIn k s.conns → k.number ≡ n → GotAt At n s → GotAt At n (next_piece k bytes s).state
 next_piece-got {At} n k bytes s at there number g = by k.answer refl
   where
     whole : k.answer ≡ None → (o : Option ℕ) → g.ask ≡ o → Holds (Owned none_but At) s

@@ -55,7 +55,8 @@ use Rattle.pp_laws_left.proofs.Owned.{Facts, Owned, is_coming_in, none_but}
 use Rattle.pp_laws_left.proofs.OwnedAsks.{filling_waits}
 use Rattle.pp_laws_left.proofs.OwnedOver.{find_some}
 use Rattle.pp_laws_left.proofs.OwnedCame.{got-owned}
-use Rattle.pp_laws_left.proofs.OwnedDecisions.{begin_replies-owned, rest_with-owned, taken-owned}
+use Rattle.pp_laws_left.proofs.OwnedBegins.{begin_replies-owned, rest_with-owned}
+use Rattle.pp_laws_left.proofs.OwnedDecisions.{taken-owned}
 use Rattle.pp_laws_left.proofs.OwnedLaws.{OwnedNow, begun_op-owned, come_to-owned, configured-now, deciding-owned, ended_op-owned, event-owned, evicted-owned, forgotten_by-owned, gone-owned, kept_now, load-owned, next-owned, opened-owned, opened_to-now, owing-owned, re_at, reached-owned, said-owned, settle, start-owned, unread-owned, woken-owned}
 use Rattle.pp_laws_left.proofs.OwnedPlaces.{dialled-owned, dropped-owned, shut-owned, undialled-owned}
 use Rattle.pp_laws_left.proofs.OwnedReplies.{ask-owned, close_client-owned, end_replies-owned, hang_up-owned, hear-owned, paid-owned, tick-owned}

@@ -212,12 +212,12 @@ AreBare v = (c : Client) (x : Instance) → IsIn c v.clients → IsIn x v.instan
 abbrev Filled : Type 0 → View → Type 0
 Filled At v = Owned none_but At v × AreBare v
 
-record IsNext (c : Client) (x : Instance) (s : State) : Type 0 where
-  there : IsIn x s.instances
-  source : source_in c.stage ≡ Some x.id
-  answers : is_waiting c.stage ≡ false
+pub record IsNext (c : Client) (x : Instance) (s : State) : Type 0 where
+  pub there : IsIn x s.instances
+  pub source : source_in c.stage ≡ Some x.id
+  pub answers : is_waiting c.stage ≡ false
 
-next_there : (s : State) (c : Client) (n : Next) → next_of s c ≡ Some n → IsNext c n.source s
+pub next_there : (s : State) (c : Client) (n : Next) → next_of s c ≡ Some n → IsNext c n.source s
 next_there s c n is = going c.is_closing is
   where
     from : (x : Instance) (r : Reply) (t : Bool) → (elim t as (λ y. Option Next) [ true ↦ Some (record { source = x; at = r.at; to = r.to }) | false ↦ None ]) ≡ Some n → x ≡ n.source

@@ -152,11 +152,11 @@ AreSure m v = (x : Exchange) → IsIn x v.exchanges → x.number ≡ m → (y : 
 abbrev ConnsAre : List Conn → View → Type 0
 ConnsAre ks v = v.conns ≡ ks
 
-note_sent-any : {P : View → Type 0} (e : Exchange) (a : Answer) (at : ℕ) (bytes : Bytes) (s : State) → Holds P s → Holds P (note_sent e a at bytes s)
+pub note_sent-any : {P : View → Type 0} (e : Exchange) (a : Answer) (at : ℕ) (bytes : Bytes) (s : State) → Holds P s → Holds P (note_sent e a at bytes s)
 unfolding note_sent note_own
 note_sent-any e a at bytes s h = by_aim_of e.aim h (when (is_empty bytes) h (holds (facts_of h))) (λ v from to. when (is_empty bytes) h (holds (facts_of h)))
 
-join-any : {P : View → Type 0} (b : Bound) (bytes : Bytes) (s : State) → Holds P s → Holds P (join b bytes s)
+pub join-any : {P : View → Type 0} (b : Bound) (bytes : Bytes) (s : State) → Holds P s → Holds P (join b bytes s)
 unfolding join note_use
 join-any b bytes s h = each_of (instance s b.instance) h (λ x. holds (facts_of h))
 

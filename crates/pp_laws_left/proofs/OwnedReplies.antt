@@ -290,7 +290,7 @@ more_asked (suc a) n is = no_test (suc a + n == 0) (λ hit. none (same_number (s
     none at = omega arith
 
 -- of a body of which nothing was left nothing is
-left_before : (a n : ℕ) → (a - n == 0) ≡ false → (a == 0) ≡ false
+pub left_before : (a n : ℕ) → (a - n == 0) ≡ false → (a == 0) ≡ false
 left_before a n is = no_test (a == 0) (λ hit. let nothing : a ≡ 0 = same_number a 0 hit in let none : a - n ≡ 0 = omega arith in let both : true ≡ false = sym (ap (λ m. m == 0) none ∙ number_same 0) ∙ is in cc both)
 
 ask_next-owned : {At : Type 0} (e : Exchange) (n : ℕ) (s : State) → Holds (Owned none_but At) s → Holds (Owned none_but At) (ask_next e n s)

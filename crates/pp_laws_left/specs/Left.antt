@@ -11,7 +11,7 @@ use Rattle.pp_law.specs.State.{State, DecidingAgain, Term, Client, Exchange, Rep
 use Rattle.pp_law.specs.Served.{waits_for_body}
 use Rattle.pp_laws.specs.Runs.{IsIn}
 use Rattle.pp_laws_ends.specs.Ends.{AreToPass}
-use Rattle.pp_laws_served.specs.Served.{IsLeft, IsReply, MayEnd, is_by_row}
+use Rattle.pp_laws_served.specs.Served.{IsReply, MayEnd, is_by_row}
 use Rattle.pp_obeys.specs.Obeys.{Obeys}
 
 -- a reply that was decided: what `IsReply` of `pp_laws_served` has, but that one that is passed has its response
@@ -78,14 +78,3 @@ pub record IsSender (u : State) (e : Exchange) : Type 0 where
 abbrev pub SendersAreThere : Type 0
 SendersAreThere = (terms : List Term) (s : State) (log : Log) → MayEnd terms s log → (e : Exchange) (n : ℕ) → IsIn e (begin_replies (come_to DecidingAgain s)).exchanges → e.asker ≡ Some n → waits_for_body (begin_replies (come_to DecidingAgain s)) e ≡ true
     → IsSender (begin_replies (come_to DecidingAgain s)) e
-
--- ---- all that is left
-
--- what is said of exchanges, but for what `EndsAreOwned` and `EndsAreFilled` have
-pub record IsLeftOfAsks (t : State) : Type 0 where
-  -- no source yet: what is nobody's is dropped before it waits for a body, as followers ask (`drop_unseen`)
-  pub owned : (e : Exchange) → IsIn e (begin_replies t).exchanges → is_some e.place ≡ true → waits_for_body (begin_replies t) e ≡ true → is_some e.asker ≡ true
-
--- where a turn may end, then, all of what it leaves
-abbrev pub LeftIsLeft : Type 0
-LeftIsLeft = (terms : List Term) (s : State) (log : Log) → MayEnd terms s log → IsLeftOfAsks (come_to DecidingAgain s) → IsLeft (come_to DecidingAgain s)

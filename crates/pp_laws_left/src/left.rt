@@ -1,7 +1,7 @@
 // What a turn leaves of replies, of what is said and passed, and of places where no head is.
-ghost use Rattle.pp_laws_left.specs.Bodies.{BeginningsKeepBodies, BodiesArePassed, LeftIsWhole, PlacesKeepBodies, UnseenBodiesGo};
+ghost use Rattle.pp_laws_left.specs.Bodies.{BeginningsKeepBodies, BodiesAreAwaited, BodiesArePassed, EndsOwnBodies, LateBodiesAreOwned, LeftIsWhole, PlacesKeepBodies, SomeWaitIsPermitted, TurnsCanWait, TurnsLeaveAll, UnseenBodiesGo};
 ghost use Rattle.pp_laws_left.specs.Filled.{EndsAreFilled, FollowedAreWithin, LateAreReady};
-ghost use Rattle.pp_laws_left.specs.Left.{EndsAreLeft, EndsAreSpoken, EndsAreToPass, LeftIsLeft, SendersAreThere, TurnsAreLeft, TurnsAreSpoken};
+ghost use Rattle.pp_laws_left.specs.Left.{EndsAreLeft, EndsAreSpoken, EndsAreToPass, SendersAreThere, TurnsAreLeft, TurnsAreSpoken};
 ghost use Rattle.pp_laws_left.specs.Owned.{EndsAreOwned, TurnsAreOwned};
 ghost use Rattle.pp_laws_left.specs.Unended.{HappeningsEndNoTurn, TurnsMayEnd};
 
@@ -33,11 +33,6 @@ pub fn senders_are_there()
     ensures there { SendersAreThere }
 {}
 
-/// So of what a turn leaves nothing is to be shown any more but that what waits for a body is somebody's.
-pub fn left_is_left()
-    ensures left { LeftIsLeft }
-{}
-
 /// No happening leaves a turn at its end, but for a row that leaves memory for the decision that is next; so where a turn may end, its
 /// last happening left it before its end.
 pub fn happenings_end_no_turn()
@@ -60,16 +55,34 @@ pub fn ends_are_filled()
     ensures ends { EndsAreFilled }
 {}
 
-/// An exchange has more of a body to ask only where its request is passed, and no place, dial, drop or reply that begins leaves one; so
-/// where a turn may end, nothing is to be shown but that before replies begin each that has a place is somebody's.
+/// An exchange has more of a body to ask only where its request is passed, and no place, dial, drop or reply that begins leaves one.
 pub fn bodies_are_owned()
     ensures passed { BodiesArePassed }
     ensures places { PlacesKeepBodies }
     ensures begins { BeginningsKeepBodies }
-    ensures left { LeftIsWhole }
 {}
 
-/// Where what nobody sees is dropped, what is passed for nobody, and has more of a body to ask, goes with its connection.
+/// The response to an exchange that has more of a body to ask is none that is dropped as it comes; so where what nobody sees is dropped,
+/// what is passed for nobody, and has more of a body to ask, goes with its connection.
 pub fn unseen_bodies_go()
+    ensures awaited { BodiesAreAwaited }
     ensures go { UnseenBodiesGo }
+{}
+
+/// So behind that phase each of these that has a place is somebody's until Stop, and so it is where a turn may end.
+pub fn bodies_stay_owned()
+    ensures late { LateBodiesAreOwned }
+    ensures ends { EndsOwnBodies }
+{}
+
+/// So where a turn may end, all stands that is asked of what it leaves; and nothing is asked but of the state in which it may.
+pub fn turns_leave_all()
+    ensures whole { LeftIsWhole }
+    ensures all { TurnsLeaveAll }
+{}
+
+/// So a turn that may end can wait, with wants that are as good as those of the law, which are among them: some wait is permitted.
+pub fn turns_can_wait()
+    ensures good { TurnsCanWait }
+    ensures some { SomeWaitIsPermitted }
 {}

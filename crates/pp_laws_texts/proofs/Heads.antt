@@ -46,7 +46,7 @@ via_len name le =
     omega arith
 
 -- an age of 64 bits
-abbrev IsAge : Option ℕ → Type 0
+abbrev pub IsAge : Option ℕ → Type 0
 IsAge None = Unit {0}
 IsAge (Some n) = n < 2 ^ 64
 
@@ -86,10 +86,10 @@ head_len title fields age name framing keep short lines is named framed =
     let k = connection_len keep in
     omega arith
 
-whole_len : (n : ℕ) (fields : List Field) (age : Option ℕ) (name : List ℕ) (keep : Bool) → n < 2 ^ 64 → size fields ≤ 18432 → IsAge age → length name ≤ 64 → length (whole_head n fields age name keep) ≤ 20480
+pub whole_len : (n : ℕ) (fields : List Field) (age : Option ℕ) (name : List ℕ) (keep : Bool) → n < 2 ^ 64 → size fields ≤ 18432 → IsAge age → length name ≤ 64 → length (whole_head n fields age name keep) ≤ 20480
 whole_len n fields age name keep fits lines is named = head_len (codes "200 OK") fields age name (length_line n) keep (omega arith) lines is named (le_trans (length_len n fits) (omega arith))
 
-part_len : (from to n : ℕ) (fields : List Field) (age : Option ℕ) (name : List ℕ) (keep : Bool) → from < 2 ^ 64 → to < 2 ^ 64 → n < 2 ^ 64 → size fields ≤ 18432 → IsAge age → length name ≤ 64
+pub part_len : (from to n : ℕ) (fields : List Field) (age : Option ℕ) (name : List ℕ) (keep : Bool) → from < 2 ^ 64 → to < 2 ^ 64 → n < 2 ^ 64 → size fields ≤ 18432 → IsAge age → length name ≤ 64
     → length (part_head from to n fields age name keep) ≤ 20480
 part_len from to n fields age name keep one two fits lines is named = head_len (codes "206 Partial Content") fields age name (content_range_line (byte_range_resp from to n) ++ length_line (to - from)) keep (omega arith) lines is named framed
   where
@@ -101,10 +101,10 @@ part_len from to n fields age name keep one two fits lines is named = head_len (
         let d = length_len (to - from) (omega arith) in
         omega arith
 
-unchanged_len : (fields : List Field) (age : Option ℕ) (name : List ℕ) (keep : Bool) → size fields ≤ 18432 → IsAge age → length name ≤ 64 → length (not_modified_head fields age name keep) ≤ 20480
+pub unchanged_len : (fields : List Field) (age : Option ℕ) (name : List ℕ) (keep : Bool) → size fields ≤ 18432 → IsAge age → length name ≤ 64 → length (not_modified_head fields age name keep) ≤ 20480
 unchanged_len fields age name keep lines is named = head_len (codes "304 Not Modified") (filter is_described fields) age name [] keep (omega arith) (le_trans (fewer is_described fields) lines) is named zero-le
 
-page_len : (n : ℕ) (keep : Bool) → n < 2 ^ 64 → length (unsatisfiable_page n keep) ≤ 20480
+pub page_len : (n : ℕ) (keep : Bool) → n < 2 ^ 64 → length (unsatisfiable_page n keep) ≤ 20480
 page_len n keep fits =
     let a = length-append (codes "HTTP/1.1 ") unsatisfiable_title in
     let b = length-append (codes "HTTP/1.1 " ++ unsatisfiable_title) crlf in

@@ -1,6 +1,6 @@
 -- Each happening that may come keeps it.
 use Rattle.pp_world.specs.Disk.{is_rising}
-use Rattle.std.proofs.Common.{◌≡◌, refl, ℕ, Bool, true, false, not, ◌&&◌, List, [], length, bytes_eq, Option, Some, None, subst, ap, ◌∙◌, map}
+use Rattle.std.proofs.Common.{◌≡◌, ◌⊎◌, inl, inr, sym, is_some, refl, ℕ, Bool, true, false, not, ◌&&◌, [], length, bytes_eq, Option, Some, None, ap, ◌∙◌, map}
 use Rattle.pp_ask.specs.declared.kind.AskKind.{AskKind}
 use Rattle.pp_conf.specs.Conf.{Settings}
 use Rattle.pp_conf.specs.Words.{reading_of}
@@ -24,31 +24,39 @@ use Rattle.pp_law.specs.Decisions.{kind_of}
 use Rattle.pp_law.specs.Entries.{entries_in}
 use Rattle.pp_law.specs.Leaving.{Leaving, ForAnother, ForMemory, BeforeDecision, leaving_as}
 use Rattle.pp_law.specs.Lists.{Bytes}
-use Rattle.pp_law.specs.Opening.{are_texts, begun, is_opening, names_file, settings_in, with_settings, woken}
-use Rattle.pp_law.specs.Phases.{due_victim, ending}
+use Rattle.pp_law.specs.Opening.{are_texts, begun, is_at, is_opening, names_file, settings_in, with_settings, woken}
+use Rattle.pp_law.specs.Phases.{come_to, due_victim, ending, may_in}
+use Rattle.pp_law.specs.Repairs.{may_begin_in_opening}
+use Rattle.pp_law.specs.Store.{is_idle_disk, may_begin_in_turn}
 use Rattle.pp_law.specs.Replies.{begin_replies, close_finished, end_replies, end_reply, end_said, is_outrun, is_said, next_request, said_by}
 use Rattle.pp_law.specs.Requests.{key_in}
-use Rattle.pp_law.specs.State.{State, Client, Entry, Exchange, Instance, IsListed, IsListening, IsRooted, IsWoken, Evicting, Keeping, Connecting, DecidingAgain, ReadOf, WriteTo, Owed, Todo, Enter}
+use Rattle.pp_law.specs.State.{State, Client, Entry, Exchange, Instance, IsListed, IsListening, IsRooted, IsWoken, Evicting, Keeping, Connecting, DecidingAgain, ReadOf, WriteTo, Owed}
 use Rattle.pp_law.specs.Table.{row, row_for, is_row_of}
-use Rattle.pp_laws.specs.Runs.{IsIn}
 use Rattle.pp_laws_versions.proofs.Asks.{begin_exchange-keeps, close_client-keeps, each_client-keeps, end_exchange-keeps, fill-keeps, forsake-keeps, leave-keeps, lose_attempt-keeps, on_client-keeps, on_conn-keeps, placing-keeps, put_on-keeps}
-use Rattle.pp_laws_versions.proofs.Cases.{by_front, by_pause, by_result, each_of, when}
+use Rattle.pp_laws_versions.proofs.Cases.{by_front, by_pause, by_result, each_of, when, when_so}
 use Rattle.pp_laws_versions.proofs.Heads.{ended-keeps, got-keeps}
 use Rattle.pp_laws_versions.proofs.Rows.{drop_chunk-keeps, forget-keeps, swept-keeps}
-use Rattle.pp_laws_versions.proofs.Store.{begin_in_opening-keeps, begin_in_turn-keeps, close_name-keeps, configured-keeps, end_op-keeps, load-keeps, lose_in_opening-keeps, note_gone-keeps, note_kept-keeps, opened_to-keeps, IsAlone}
+use Rattle.pp_laws_versions.proofs.Plans.{IsAlone}
+use Rattle.pp_laws_versions.proofs.Store.{begin_in_opening-keeps, begin_in_turn-keeps, close_name-keeps, configured-keeps, end_op-keeps, load-keeps, lose_in_opening-keeps, note_gone-keeps, note_kept-keeps, opened_to-keeps}
 use Rattle.pp_laws_versions.proofs.Turns.{close_finished-keeps, come_to-keeps, come_to_decide-keeps, deciding-keeps, enter_row-keeps, in_phase-keeps, regained-keeps, rest_with-keeps, tick-keeps, touch-keeps, use_said-keeps}
-use Rattle.pp_law.specs.Permits.{IsPermitted, permits}
+use Rattle.pp_law.specs.Permits.{IsPermitted, permits, permits_began, permits_noted}
 use Rattle.pp_laws.proofs.Lists.{the_one}
 use Rattle.pp_laws.proofs.Sound.{Since, Sound, instance_id, facts_of as sound_facts}
 use Rattle.pp_laws.proofs.Steps.{come_to-sound}
-use Rattle.pp_laws.proofs.Tests.{first_holds}
-use Rattle.pp_laws_crash.proofs.Happenings.{woke_so}
+use Rattle.pp_laws.proofs.Tests.{first_holds, second_holds}
+use Rattle.pp_laws_crash.proofs.Frames.{kept_self}
+use Rattle.pp_laws_crash.proofs.Happenings.{either_is, listed_opens, test_so, woke_so}
+use Rattle.pp_laws_crash.proofs.KeptTurns.{come_to-kept}
+use Rattle.pp_laws_crash.proofs.Standing.{at_IsListed}
+use Rattle.pp_laws_crash.proofs.Steps.{Inv, inv_kept}
+use Rattle.pp_laws_versions.proofs.Disk.{entries_end, loads_whole}
 use Rattle.pp_obeys.proofs.Settled.{AtRest, Settled, reading_owes, rest_owing}
 use Rattle.pp_recover.proofs.NameLemmas.{distinct}
 use Rattle.pp_shelf_law.proofs.Finding.{named_in, one_named}
 use Rattle.pp_shelf_law.proofs.Opened.{all_named, once_each}
 use Rattle.pp_shelf_law.proofs.Shelves.{bytes_by}
 use Rattle.pp_obeys.proofs.Silent.{permitted_wide}
+use Rattle.pp_laws_versions.proofs.Grown.{all_left, less}
 use Rattle.pp_laws_versions.proofs.View.{Holds, Like, facts_of, holds}
 
 -- ---- events
@@ -180,15 +188,15 @@ forgotten_by-keeps : {R : Like} (key : Bytes) (s : State) → Holds R s → Hold
 unfolding forgotten_by
 forgotten_by-keeps key s h = each_of (leaving_as s key) h (λ how. leave_memory-keeps how s h)
 
-noted-keeps : {R : Like} (remark : Remark) (s : State) → Holds R s → Holds R (noted remark s)
+noted-keeps : (remark : Remark) (s : State) → permits_noted s remark ≡ true → Inv s → Holds false s → Holds false (noted remark s)
 unfolding noted
-noted-keeps (Taken c i d) s h = take_decision-keeps c d _ (deciding-keeps s h)
-noted-keeps (Cut c cause) s h = close_client-keeps c true _ (deciding-keeps s h)
-noted-keeps (Kept key tag n extent) s h = note_kept-keeps key extent s h
-noted-keeps (Gone key) s h = note_gone-keeps key _ (come_to-keeps Keeping s h)
-noted-keeps (Forgotten key) s h = forgotten_by-keeps key s h
-noted-keeps (Evicted key tag n i) s h = evicted-keeps _ (come_to-keeps Evicting s h)
-noted-keeps (Loaded key tag n i) s h = load-keeps key i s h
+noted-keeps (Taken c i d) s is inv h = take_decision-keeps c d _ (deciding-keeps s h)
+noted-keeps (Cut c cause) s is inv h = close_client-keeps c true _ (deciding-keeps s h)
+noted-keeps (Kept key tag n extent) s is inv h = note_kept-keeps key tag n extent s (second_holds (is_idle_disk s) _ is) h
+noted-keeps (Gone key) s is inv h = note_gone-keeps key _ (come_to-keeps Keeping s h)
+noted-keeps (Forgotten key) s is inv h = forgotten_by-keeps key s h
+noted-keeps (Evicted key tag n i) s is inv h = evicted-keeps _ (come_to-keeps Evicting s h)
+noted-keeps (Loaded key tag n i) s is inv h = load-keeps key i s (loads_whole s key tag n i inv (facts_of h) is) h
 
 -- ---- the disk, and the opening
 
@@ -200,9 +208,18 @@ alone_in s hs x y i j stands on is =
     row_so : (z : Instance) → z.is_retired ≡ false → z.key ≡ x.key → is_row_of x.key z ≡ true
     row_so z stands is = ap (λ (b : Bool). not b && bytes_eq z.key x.key) stands ∙ bytes_by z.key x.key is
 
-begun_op-keeps : {b : Since} (op : DiskOp) (s : State) → Sound b s → Holds false s → Holds false (begun_op op s)
+-- where operations begin in a turn none is under way
+idle_in : (s : State) (op : DiskOp) → is_opening s ≡ false → permits_began s op ≡ true → not (is_some (come_to Keeping s).under_way) ≡ true
+idle_in s op opens is = by (either_is (is_at IsListed s && may_begin_in_opening op s) _ is)
+  where
+    by : ((is_at IsListed s && may_begin_in_opening op s) ≡ true) ⊎ (may_in Keeping (may_begin_in_turn op) s ≡ true) → not (is_some (come_to Keeping s).under_way) ≡ true
+    by (inl listed) = absurd (let both : true ≡ false = sym (listed_opens s (at_IsListed s.phase (first_holds (is_at IsListed s) _ listed))) ∙ opens in cc both)
+    by (inr turns) = first_holds (not (is_some (come_to Keeping s).under_way)) _ (test_so (is_at Keeping (come_to Keeping s)) _ turns)
+
+begun_op-keeps : {b : Since} (op : DiskOp) (s : State) → permits_began s op ≡ true → Inv s → Sound b s → Holds false s → Holds false (begun_op op s)
 unfolding begun_op
-begun_op-keeps op s hs h = when (is_opening s) (begin_in_opening-keeps op s (alone_in s hs) h) (begin_in_turn-keeps op _ (alone_in _ (come_to-sound Keeping s hs)) (come_to-keeps Keeping s h))
+begun_op-keeps op s is inv hs h = when_so (is_opening s) (λ opens. begin_in_opening-keeps op s (alone_in s hs) h)
+    (λ opens. begin_in_turn-keeps op _ (alone_in _ (come_to-sound Keeping s hs)) (λ empty. entries_end (come_to Keeping s) (idle_in s op opens is) empty (inv_kept s _ (come_to-kept Keeping s (kept_self s inv.owed)) inv)) (come_to-keeps Keeping s h))
 
 ended_op-keeps : {R : Like} (op : DiskOp) (ok : Bool) (s : State) → Holds R s → Holds R (ended_op op ok s)
 unfolding ended_op
@@ -240,7 +257,16 @@ woken-keeps image s rising = begun-keeps _ (holds (record {
   };
   next = λ e i. absurd i;
   pending = λ e d i j is. absurd i;
-  still = λ on e i. absurd i;
+  still = λ on. refl;
+  once = λ e d i j fe fd is. ap (λ (z : Entry). z.extent) (one_named (name_of d.key) e d (entries_in image) (once_each image (distinct (map (λ (p : Bytes × Bytes). p.0) image) rising) (name_of d.key)) i (named_in e (entries_in image) (all_named image) i ∙ ap name_of is) j (named_in d (entries_in image) (all_named image) j));
+  free = λ e d i. absurd i;
+  last = tt;
+  whole = λ e i fresh x j. absurd j;
+  enters = λ e i. absurd i;
+  notes = λ key tag n extent i. absurd i;
+  differ = tt;
+  given = λ x i. absurd i;
+  chunks_given = λ c i. absurd i;
 }))
 
 -- ---- closings and places
@@ -272,11 +298,11 @@ dropped-keeps n s h = each_of (conn s n) h (λ k. when k.is_closing (out-keeps n
 -- ---- all
 
 weaker : {R : Like} (s : State) → Holds R s → Holds false s
-weaker s h = holds (record { each = (facts_of h).each; next = (facts_of h).next; pending = (facts_of h).pending; still = λ on. absurd (let both : false ≡ true = on in cc both) })
+weaker s h = holds (less s.instances s.entries s.agenda.todo s.agenda.todo s.chunks s.next_instance (all_left s.agenda.todo (facts_of h).last) (λ on. absurd (let both : false ≡ true = on in cc both)) (facts_of h))
 
 -- where nothing is on its way to the disk
 stiller : (s : State) → s.agenda.todo ≡ [] → Holds false s → Holds true s
-stiller s none h = holds (record { each = (facts_of h).each; next = (facts_of h).next; pending = (facts_of h).pending; still = λ on e i. subst (λ (ts : List Todo). IsIn (Enter e) ts) none i })
+stiller s none h = holds (less s.instances s.entries s.agenda.todo s.agenda.todo s.chunks s.next_instance (all_left s.agenda.todo (facts_of h).last) (λ on. none) (facts_of h))
 
 woke_rising : (s : State) (image : Files) → IsPermitted s (Woke image) → is_rising (map (λ file. file.0) image) ≡ true
 woke_rising s image is = first_holds (is_rising (map (λ file. file.0) image)) _ (woke_so s image is)
@@ -285,34 +311,34 @@ got_rests : (s : State) (k : ℕ) (bytes : Bytes) → IsPermitted s (Got k bytes
 unfolding permits
 got_rests s k bytes is settled = rest_owing s (reading_owes s.owed k (first_holds (is_reading s.owed k) _ (permitted_wide s (Got k bytes) is))) settled
 
-pub changed-keeps : {b : Since} (s : State) (happening : Happening) → IsPermitted s happening → Settled s → Sound b s → Holds false s → Holds false (changed s happening)
-unfolding changed
-changed-keeps s (Woke image) is settled hs h = woken-keeps image s (woke_rising s image is)
-changed-keeps s (Waits w) is settled hs h = rest_with-keeps w _ (ending-keeps s h)
-changed-keeps s (Clock seconds) is settled hs h = event-keeps _ (tick-keeps seconds s h)
-changed-keeps s (Opened n) is settled hs h = event-keeps _ (opened-keeps n s h)
-changed-keeps s (CanRead n) is settled hs h = event-keeps _ (owing-keeps (ReadOf n) n s h)
-changed-keeps s (CanWrite n) is settled hs h = event-keeps _ (owing-keeps (WriteTo n) n s h)
-changed-keeps s (Heard c bytes) is settled hs h = paid-keeps _ (hear-keeps c bytes s h)
-changed-keeps s (HungUp c) is settled hs h = paid-keeps _ (hang_up-keeps c s h)
-changed-keeps s (Said c offered bytes) is settled hs h = paid-keeps _ (said-keeps c (length bytes) s h)
-changed-keeps s (Shut c) is settled hs h = shut-keeps c _ (come_to-keeps Connecting s h)
-changed-keeps s (Dialled n host port) is settled hs h = dialled-keeps n host port _ (come_to-keeps Connecting s h)
-changed-keeps s (Undialled host port) is settled hs h = undialled-keeps _ (come_to-keeps Connecting s h)
-changed-keeps s (Reached k) is settled hs h = event-keeps _ (reached-keeps k s h)
-changed-keeps s (Ended k) is settled hs h = paid-keeps _ (gone-keeps true k s h)
-changed-keeps s (Broke k) is settled hs h = paid-keeps _ (gone-keeps false k _ (event-keeps s h))
-changed-keeps s (Asked k bytes) is settled hs h = paid-keeps _ (ask-keeps k (length bytes) s h)
-changed-keeps s (Got k bytes) is settled hs h = paid-keeps _ (end_replies-keeps _ (weaker _ (got-keeps refl (length bytes) k bytes s (stiller s (got_rests s k bytes is settled).nothing h))))
-changed-keeps s (Dropped k) is settled hs h = dropped-keeps k _ (come_to-keeps Connecting s h)
-changed-keeps s (NoneYet n) is settled hs h = paid-keeps s h
-changed-keeps s (Began op) is settled hs h = begun_op-keeps op s hs h
-changed-keeps s (Did op ok) is settled hs h = ended_op-keeps op ok s h
-changed-keeps s (Unread name) is settled hs h = unread-keeps name s h
-changed-keeps s (Noted remark) is settled hs h = noted-keeps remark s h
-changed-keeps s (Rooted folder) is settled hs h = opened_to-keeps IsRooted true s h
-changed-keeps s (Listed ok) is settled hs h = opened_to-keeps IsListed ok s h
-changed-keeps s (Listens port ok) is settled hs h = opened_to-keeps IsListening ok s h
-changed-keeps s (Configured file text) is settled hs h = configured-keeps text s h
-changed-keeps s (Printed text) is settled hs h = h
-changed-keeps s Stopped is settled hs h = event-keeps _ (holds (facts_of h))
+pub changed-keeps : {b : Since} (s : State) (happening : Happening) → IsPermitted s happening → Settled s → Inv s → Sound b s → Holds false s → Holds false (changed s happening)
+unfolding changed permits
+changed-keeps s (Woke image) is settled inv hs h = woken-keeps image s (woke_rising s image is)
+changed-keeps s (Waits w) is settled inv hs h = rest_with-keeps w _ (ending-keeps s h)
+changed-keeps s (Clock seconds) is settled inv hs h = event-keeps _ (tick-keeps seconds s h)
+changed-keeps s (Opened n) is settled inv hs h = event-keeps _ (opened-keeps n s h)
+changed-keeps s (CanRead n) is settled inv hs h = event-keeps _ (owing-keeps (ReadOf n) n s h)
+changed-keeps s (CanWrite n) is settled inv hs h = event-keeps _ (owing-keeps (WriteTo n) n s h)
+changed-keeps s (Heard c bytes) is settled inv hs h = paid-keeps _ (hear-keeps c bytes s h)
+changed-keeps s (HungUp c) is settled inv hs h = paid-keeps _ (hang_up-keeps c s h)
+changed-keeps s (Said c offered bytes) is settled inv hs h = paid-keeps _ (said-keeps c (length bytes) s h)
+changed-keeps s (Shut c) is settled inv hs h = shut-keeps c _ (come_to-keeps Connecting s h)
+changed-keeps s (Dialled n host port) is settled inv hs h = dialled-keeps n host port _ (come_to-keeps Connecting s h)
+changed-keeps s (Undialled host port) is settled inv hs h = undialled-keeps _ (come_to-keeps Connecting s h)
+changed-keeps s (Reached k) is settled inv hs h = event-keeps _ (reached-keeps k s h)
+changed-keeps s (Ended k) is settled inv hs h = paid-keeps _ (gone-keeps true k s h)
+changed-keeps s (Broke k) is settled inv hs h = paid-keeps _ (gone-keeps false k _ (event-keeps s h))
+changed-keeps s (Asked k bytes) is settled inv hs h = paid-keeps _ (ask-keeps k (length bytes) s h)
+changed-keeps s (Got k bytes) is settled inv hs h = paid-keeps _ (end_replies-keeps _ (weaker _ (got-keeps refl (length bytes) k bytes s (stiller s (got_rests s k bytes is settled).nothing h))))
+changed-keeps s (Dropped k) is settled inv hs h = dropped-keeps k _ (come_to-keeps Connecting s h)
+changed-keeps s (NoneYet n) is settled inv hs h = paid-keeps s h
+changed-keeps s (Began op) is settled inv hs h = begun_op-keeps op s (permitted_wide s (Began op) is) inv hs h
+changed-keeps s (Did op ok) is settled inv hs h = ended_op-keeps op ok s h
+changed-keeps s (Unread name) is settled inv hs h = unread-keeps name s h
+changed-keeps s (Noted remark) is settled inv hs h = noted-keeps remark s (permitted_wide s (Noted remark) is) inv h
+changed-keeps s (Rooted folder) is settled inv hs h = opened_to-keeps IsRooted true s h
+changed-keeps s (Listed ok) is settled inv hs h = opened_to-keeps IsListed ok s h
+changed-keeps s (Listens port ok) is settled inv hs h = opened_to-keeps IsListening ok s h
+changed-keeps s (Configured file text) is settled inv hs h = configured-keeps text s h
+changed-keeps s (Printed text) is settled inv hs h = h
+changed-keeps s Stopped is settled inv hs h = event-keeps _ (holds (facts_of h))

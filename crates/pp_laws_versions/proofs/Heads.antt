@@ -1,5 +1,5 @@
 -- What an origin sends keeps it: heads, bodies, ends. A response makes a row where nothing is on its way to the disk.
-use Rattle.std.proofs.Common.{ℕ, zero, suc, Bool, true, false, ◌==◌, ◌&&◌, ◌||◌, List, [], ◌∷◌, ◌++◌, drop, length, Option, Some, None, refl}
+use Rattle.std.proofs.Common.{◌≡◌, ◌≤◌, subst, ℕ, zero, suc, Bool, true, false, ◌==◌, ◌&&◌, ◌||◌, List, [], ◌∷◌, ◌++◌, drop, length, Option, Some, None, refl}
 use Rattle.std.specs.List.{list_any}
 use Rattle.pp_framing.specs.Body.{Outcome, Done, Going, Bad}
 use Rattle.pp_framing.specs.Framing.{rule_of}
@@ -14,19 +14,25 @@ use Rattle.pp_pipe.specs.Front.{is_interim}
 use Rattle.pp_target.specs.Key.{Key, text_of}
 use Rattle.pp_text.specs.Bytes.{is_empty}
 use Rattle.pp_valid.specs.declared.version.Version.{Version}
+use Rattle.pp_law.specs.Chunks.{joined}
 use Rattle.pp_law.specs.Connections.{conn, exchange, is_for, front_of_line, on_conn, attempts_of, without_shared_row, end_exchange, close_conn}
 use Rattle.pp_law.specs.Lists.{Bytes, is_some_with}
 use Rattle.pp_law.specs.OwnHeads.{key_of, tell, use_body, drop_answer, useless, times_for, renewed, renew, settle_on, renew_row, may_refresh, settle_known, known_version, settle, may_join, names_version, settle_unchanged, unchanged, is_of_another, forbids_sharing, not_shared, not_modified, clears_row, cleared_by, is_private_part, is_widened, relay_head, other_head, other_part, own_head, is_bound, lacks_next, count_elsewhere, part_head, filling_head, version_in, is_wrong_head, note_own, note_sent, join, join_bound}
 use Rattle.pp_law.specs.Passing.{pour}
 use Rattle.pp_law.specs.Responses.{skipping, skip_body, rested, close_this, may_go_on, finish, bad_response, bad_head, by_aim, asks_head, answer_with, end_if_empty, begin_answer, answer_for, head_came, Piece, is_early, with_unread, head_piece, deliver, payload_of, body_piece_of, body_piece, next_piece, got, is_whole_at_end, finish_first, ended, bring_row, is_readable}
 use Rattle.pp_law.specs.Stages.{on_passed, bound_of}
-use Rattle.pp_law.specs.State.{State, Answer, Body, Brought, Conn, Exchange, Instance, Bound}
-use Rattle.pp_law.specs.Table.{row, instance}
+use Rattle.pp_law.specs.State.{State, Answer, Body, Brought, Conn, Entry, Exchange, Instance, Bound}
+use Rattle.pp_law.specs.Table.{extent_of, is_instance, row, instance}
 use Rattle.pp_law.specs.ThroughHeads.{invalidates, key_named, is_same_host, clear_named, clear_each, places_named, invalidated, disproves, reads, disproved, through_head}
+use Rattle.pp_laws.proofs.Joins.{joined-given}
+use Rattle.pp_laws.proofs.Lists.{in_find, the_one}
+use Rattle.pp_laws.proofs.Sound.{instance_id}
+use Rattle.pp_laws.specs.Runs.{IsIn}
 use Rattle.pp_laws_versions.proofs.Asks.{close_conn-keeps, end_exchange-keeps, fail-keeps, lose_attempt-keeps, on_client_of-keeps, on_conn-keeps, on_exchange-keeps}
-use Rattle.pp_laws_versions.proofs.Cases.{by_aim_of, by_outcome, by_result, each_of, when}
-use Rattle.pp_laws_versions.proofs.Rows.{clear-keeps, enter-keeps, make_row-keeps, mark_row-keeps, note_use-keeps, on_instance-keeps}
-use Rattle.pp_laws_versions.proofs.View.{Closed, Holds, Like, facts_of, holds}
+use Rattle.pp_laws_versions.proofs.Cases.{by_aim_of, by_outcome, by_result, each_of, each_so, when}
+use Rattle.pp_laws_versions.proofs.Chunks.{whole_joined}
+use Rattle.pp_laws_versions.proofs.Rows.{as_far, clear-keeps, enter-keeps, make_row-keeps, mark_row-keeps, note_use-keeps, on_instance-keeps}
+use Rattle.pp_laws_versions.proofs.View.{Closed, Holds, Like, facts_of, holds, with_joined}
 
 -- ---- what is told
 
@@ -51,7 +57,7 @@ useless-keeps e s h = lose_attempt-keeps e _ (drop_answer-keeps e s h)
 -- what it takes over has room in the row
 renew-keeps : {R : Like} (x : Instance) (head : Response) (times : Times) (s : State) → Holds R s → Holds R (renew x head times s)
 unfolding renew
-renew-keeps x head times s h = mark_row-keeps x.id _ (on_instance-keeps x.id (renewed head times) s (λ y. refl) (λ y. refl) (λ y is. is) h)
+renew-keeps x head times s h = mark_row-keeps x.id _ (on_instance-keeps x.id (renewed head times) s (λ y. refl) (λ y. refl) (λ y. refl) (λ y is. is) h)
 
 renew_row-keeps : {R : Like} (e : Exchange) (head : Response) (s : State) → Holds R s → Holds R (renew_row e head s)
 unfolding renew_row
@@ -235,17 +241,28 @@ pub note_sent-keeps : {R : Like} (e : Exchange) (a : Answer) (at : ℕ) (bytes :
 unfolding note_sent
 note_sent-keeps e a at bytes s h = by_aim_of e.aim h (note_own-keeps e a at bytes s h) (λ v from to. note_own-keeps e a at bytes s h)
 
-join-keeps : {R : Like} (b : Bound) (bytes : Bytes) (s : State) → Holds R s → Holds R (join b bytes s)
+join-keeps : {R : Like} (k0 : Closed R) (b : Bound) (bytes : Bytes) (s : State) → Holds R s → Holds R (join b bytes s)
 unfolding join
-join-keeps b bytes s h = each_of (instance s b.instance) h (λ x. note_use-keeps _ (holds (facts_of h)))
+join-keeps {R} k0 b bytes s h = each_so (instance s b.instance) (λ none. h) (λ x found. note_use-keeps _ (joined_to x found))
+  where
+    joined_to : (x : Instance) → instance s b.instance ≡ Some x → Holds R (record s { chunks = joined x.id (extent_of s x) b.next bytes s.chunks })
+    joined_to x found = holds (with_joined s.instances s.entries s.agenda.todo s.chunks _ s.next_instance k0
+        (λ y j stands e i fresh is. whole_joined y.version.length y.id e.extent x.id (extent_of s x) b.next bytes s.chunks (λ same. reach y j stands e i fresh is same))
+        (joined-given s.next_instance x.id (extent_of s x) b.next bytes s.chunks ((facts_of h).given x there) (facts_of h).chunks_given) (facts_of h))
+      where
+        there : IsIn x s.instances
+        there = (in_find (is_instance b.instance) x s.instances found).0
 
-pub join_bound-keeps : {R : Like} (e : Exchange) (bytes : Bytes) (s : State) → Holds R s → Holds R (join_bound e bytes s)
+        reach : (y : Instance) → IsIn y s.instances → y.is_retired ≡ false → (e : Entry) → IsIn e s.entries → e.is_stale ≡ false → e.key ≡ y.key → y.id ≡ x.id → e.extent ≤ extent_of s x
+        reach y j stands e i fresh is same = subst (λ (z : Instance). e.extent ≤ extent_of s z) (the_one instance_id s.instances y x (facts_of h).differ j there same) (as_far s y e (facts_of h) stands i fresh is)
+
+pub join_bound-keeps : {R : Like} (k0 : Closed R) (e : Exchange) (bytes : Bytes) (s : State) → Holds R s → Holds R (join_bound e bytes s)
 unfolding join_bound
-join_bound-keeps e bytes s h = each_of (bound_of e) h (λ b. on_exchange-keeps e.number _ _ (join-keeps b bytes s h))
+join_bound-keeps k0 e bytes s h = each_of (bound_of e) h (λ b. on_exchange-keeps e.number _ _ (join-keeps k0 b bytes s h))
 
-deliver-keeps : {R : Like} (e : Exchange) (a : Answer) (at : ℕ) (bytes : Bytes) (s : State) → Holds R s → Holds R (deliver e a at bytes s)
+deliver-keeps : {R : Like} (k0 : Closed R) (e : Exchange) (a : Answer) (at : ℕ) (bytes : Bytes) (s : State) → Holds R s → Holds R (deliver e a at bytes s)
 unfolding deliver
-deliver-keeps e a at bytes s h = pour-keeps e _ _ (join_bound-keeps e bytes _ (note_sent-keeps e a at bytes s h))
+deliver-keeps k0 e a at bytes s h = pour-keeps e _ _ (join_bound-keeps k0 e bytes _ (note_sent-keeps e a at bytes s h))
 
 body_piece_by : {R : Like} (k : Conn) (a : Answer) (e : Exchange) (bytes : Bytes) (t : State) (outcome : Outcome) → Holds R t
     → Holds R (elim outcome as (λ c. Piece) [
@@ -257,19 +274,19 @@ body_piece_by k a e bytes t Going h = on_conn-keeps k.number _ t h
 body_piece_by k a e bytes t Bad h = bad_response-keeps k t h
 body_piece_by k a e bytes t (Done rest) h = finish-keeps k e a t h
 
-body_piece-keeps : {R : Like} (k : Conn) (a : Answer) (bytes : Bytes) (s : State) → Holds R s → Holds R (body_piece k a bytes s).state
-body_piece-keeps {R} k a bytes s h = by (front_of_line s k)
+body_piece-keeps : {R : Like} (k0 : Closed R) (k : Conn) (a : Answer) (bytes : Bytes) (s : State) → Holds R s → Holds R (body_piece k a bytes s).state
+body_piece-keeps {R} k0 k a bytes s h = by (front_of_line s k)
   where
     by : (front : Option Exchange) → Holds R (elim front as (λ c. Piece) [ None ↦ record { state = close_conn false k s; rest = [] } | Some e ↦ body_piece_of k a e bytes s ]).state
     by None = close_conn-keeps false k s h
-    by (Some e) = body_piece_by k a e bytes _ (body_of a.rule (a.raw ++ bytes)).outcome (deliver-keeps e a (length (payload_of a)) (drop (length (payload_of a)) (body_of a.rule (a.raw ++ bytes)).payload) s h)
+    by (Some e) = body_piece_by k a e bytes _ (body_of a.rule (a.raw ++ bytes)).outcome (deliver-keeps k0 e a (length (payload_of a)) (drop (length (payload_of a)) (body_of a.rule (a.raw ++ bytes)).payload) s h)
 
 pub next_piece-keeps : {R : Like} (k0 : Closed R) (k : Conn) (bytes : Bytes) (s : State) → Holds R s → Holds R (next_piece k bytes s).state
 next_piece-keeps {R} k0 k bytes s h = by k.answer
   where
     by : (answer : Option Answer) → Holds R (elim answer as (λ c. Piece) [ Some a ↦ body_piece k a bytes s | None ↦ head_piece k bytes s ]).state
     by None = head_piece-keeps k0 k bytes s h
-    by (Some a) = body_piece-keeps k a bytes s h
+    by (Some a) = body_piece-keeps k0 k a bytes s h
 
 pub got-keeps : {R : Like} (k0 : Closed R) (more n : ℕ) (bytes : Bytes) (s : State) → Holds R s → Holds R (got more n bytes s)
 unfolding got

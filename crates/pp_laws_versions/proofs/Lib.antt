@@ -1,7 +1,11 @@
+pub mod Chunks
 pub mod View
+pub mod Grown
 pub mod Cases
 pub mod Rows
+pub mod Plans
 pub mod Store
+pub mod Disk
 pub mod Asks
 pub mod Heads
 pub mod Turns

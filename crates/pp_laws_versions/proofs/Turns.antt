@@ -18,6 +18,9 @@ use Rattle.pp_world.specs.declared.note.Decision.{Decision}
 use Rattle.pp_laws_versions.proofs.Asks.{close_client-keeps, close_conn-keeps, each_conn-keeps, end_exchange-keeps, fail-keeps, fill-keeps, give_up_asks-keeps, on_client-keeps, on_conn-keeps, placing-keeps}
 use Rattle.pp_laws_versions.proofs.Cases.{each_of, when}
 use Rattle.pp_laws_versions.proofs.Rows.{enter-keeps, mark_row-keeps, use_chunk-keeps}
+use Rattle.pp_laws.proofs.Lists.{differ_map}
+use Rattle.pp_laws.proofs.Sound.{instance_id}
+use Rattle.pp_laws_versions.proofs.Chunks.{fewer_same}
 use Rattle.pp_laws_versions.proofs.View.{Holds, Like, facts_of, few_mapped, fewer, holds, same_entries}
 
 drop_on-keeps : {R : Like} (k : Conn) (s : State) → Holds R s → Holds R (drop_on k s)
@@ -106,7 +109,7 @@ tick-keeps now s h = tick_to-keeps (max s.clock now) s h
 
 pub rest_with-keeps : {R : Like} (w : Wants) (s : State) → Holds R s → Holds R (rest_with w s)
 unfolding rest_with
-rest_with-keeps w s h = holds (fewer s.instances _ s.entries _ s.agenda.todo _ (few_mapped rested_instance s.instances (λ x. refl) (λ x. refl) (λ x is. is)) (same_entries s.entries) (λ e i. i) (facts_of h))
+rest_with-keeps w s h = holds (fewer s.instances _ s.entries _ s.agenda.todo s.chunks _ s.next_instance (few_mapped rested_instance s.instances (λ x. refl) (λ x. refl) (λ x. refl) (λ x is. is)) (same_entries s.entries) (differ_map instance_id rested_instance (λ x. refl) s.instances (facts_of h).differ) (fewer_same s.chunks) (λ c i. i) (facts_of h))
 
 -- ---- what clients wait for and use
 

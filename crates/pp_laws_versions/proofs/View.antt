@@ -1,10 +1,15 @@
--- What is kept of rows in memory, of entries on the disk, and of those that are on their way there; and what each change of them keeps of it.
-use Rattle.std.proofs.Common.{◌≡◌, ◌⊎◌, refl, sym, subst, ap, ◌∙◌, inl, inr, Bool, true, false, List, [], ◌∷◌, ◌++◌, map, filter, drop}
-use Rattle.pp_law.specs.Lists.{change}
-use Rattle.pp_law.specs.State.{State, Entry, Instance, Todo, Enter}
-use Rattle.pp_laws.proofs.Lists.{Changed, From, in_change, in_filter, in_map, in_moved, in_push, moved, other, same}
+-- What is kept of rows in memory, of entries on the disk, of those that are on their way there, and of chunks; and what each change of them
+-- keeps of it.
+use Rattle.std.proofs.Common.{◌≡◌, refl, sym, subst, subst₂, ap, ◌∙◌, ℕ, ◌<◌, Bool, true, false, List, [], ◌∷◌, map, filter}
+use Rattle.pp_law.specs.Lists.{Bytes, change}
+use Rattle.pp_law.specs.State.{State, Chunk, Entry, Instance, Todo, Do, Enter, Acknowledge}
+use Rattle.pp_laws.proofs.Lists.{Changed, From, in_change, in_filter, in_map, in_moved, moved, other, same}
+use Rattle.pp_laws.proofs.Sound.{instance_id}
+use Rattle.pp_laws.specs.Numbers.{AreDistinct}
 use Rattle.pp_laws.specs.Runs.{IsIn}
 use Rattle.pp_target.specs.Name.{name_of}
+use Rattle.pp_valid.specs.declared.version.Version.{Version}
+use Rattle.pp_laws_versions.proofs.Chunks.{Fewer, Whole, whole_fewer}
 
 -- whether nothing is on its way to the disk: so it is where responses are read
 abbrev pub Like : Type 0
@@ -19,15 +24,40 @@ pub record Agrees (e : Entry) (instances : List Instance) (entries : List Entry)
   pub kept : (d : Entry) → IsIn d entries → d.is_stale ≡ false → d.key ≡ e.key → d.version ≡ e.version
   pub named : e.name ≡ name_of e.key
 
-pub record Facts (R : Like) (instances : List Instance) (entries : List Entry) (todo : List Todo) : Type 0 where
+-- nothing becomes an entry
+abbrev pub NoEnter : List Todo → Type 0
+NoEnter todo = (e : Entry) → IsIn (Enter e) todo → ⊥
+
+-- behind an entry that is entered, or noted further, none is entered
+abbrev pub EntersLast : List Todo → Type 0
+EntersLast [] = Unit {0}
+EntersLast (Do op ∷ todo) = EntersLast todo
+EntersLast (Enter e ∷ todo) = NoEnter todo
+EntersLast (Acknowledge key tag n extent ∷ todo) = NoEnter todo
+
+-- of each row that stands, of which of its key an entry is kept so far, each chunk is in memory as a whole, or nothing of it
+abbrev pub AllWhole : List Instance → List Chunk → Bytes → ℕ → Type 0
+AllWhole instances chunks key extent = (x : Instance) → IsIn x instances → x.is_retired ≡ false → key ≡ x.key → Whole x.version.length x.id extent chunks
+
+pub record Facts (R : Like) (instances : List Instance) (entries : List Entry) (todo : List Todo) (chunks : List Chunk) (next_id : ℕ) : Type 0 where
   pub each : (e : Entry) → IsIn e entries → e.is_stale ≡ false → Agrees e instances entries
   -- what becomes an entry once it is published
   pub next : (e : Entry) → IsIn (Enter e) todo → Agrees e instances entries
   pub pending : (e d : Entry) → IsIn (Enter e) todo → IsIn (Enter d) todo → d.key ≡ e.key → d.version ≡ e.version
-  pub still : R ≡ true → (e : Entry) → IsIn (Enter e) todo → ⊥
+  pub still : R ≡ true → todo ≡ []
+  -- entries of one key reach equally far
+  pub once : (e d : Entry) → IsIn e entries → IsIn d entries → e.is_stale ≡ false → d.is_stale ≡ false → e.key ≡ d.key → e.extent ≡ d.extent
+  pub free : (e d : Entry) → IsIn (Enter e) todo → IsIn d entries → d.is_stale ≡ false → d.key ≡ e.key → ⊥
+  pub last : EntersLast todo
+  pub whole : (e : Entry) → IsIn e entries → e.is_stale ≡ false → AllWhole instances chunks e.key e.extent
+  pub enters : (e : Entry) → IsIn (Enter e) todo → AllWhole instances chunks e.key e.extent
+  pub notes : (key tag : Bytes) (n extent : ℕ) → IsIn (Acknowledge key tag n extent) todo → AllWhole instances chunks key extent
+  pub differ : AreDistinct (map instance_id instances)
+  pub given : (x : Instance) → IsIn x instances → x.id < next_id
+  pub chunks_given : (c : Chunk) → IsIn c chunks → c.instance < next_id
 
 abbrev pub FactsOf : Like → State → Type 0
-FactsOf R s = Facts R s.instances s.entries s.agenda.todo
+FactsOf R s = Facts R s.instances s.entries s.agenda.todo s.chunks s.next_instance
 
 pub data Holds (R : Like) (s : State) : Type 0 where
   holds : FactsOf R s → Holds R s
@@ -40,6 +70,7 @@ facts_of (holds facts) = facts
 pub record WasRow (ys : List Instance) (x : Instance) : Type 0 where
   pub was : Instance
   pub there : IsIn was ys
+  pub id : x.id ≡ was.id
   pub key : x.key ≡ was.key
   pub version : x.version ≡ was.version
   pub stood : x.is_retired ≡ false → was.is_retired ≡ false
@@ -52,25 +83,33 @@ pub record WasEntry (ds : List Entry) (e : Entry) : Type 0 where
   pub version : e.version ≡ was.version
   pub fresh : was.is_stale ≡ false
 
+-- and reaches as far
+pub record WasAsFar (ds : List Entry) (e : Entry) : Type 0 where
+  pub one : WasEntry ds e
+  pub extent : e.extent ≡ one.was.extent
+
 abbrev pub FewRows : List Instance → List Instance → Type 0
 FewRows ys xs = (x : Instance) → IsIn x xs → WasRow ys x
 
 abbrev pub FewEntries : List Entry → List Entry → Type 0
-FewEntries ds es = (e : Entry) → IsIn e es → e.is_stale ≡ false → WasEntry ds e
+FewEntries ds es = (e : Entry) → IsIn e es → e.is_stale ≡ false → WasAsFar ds e
+
+abbrev pub EntriesAs : List Entry → List Entry → Type 0
+EntriesAs ds es = (e : Entry) → IsIn e es → e.is_stale ≡ false → WasEntry ds e
 
 pub same_row : (ys : List Instance) (x : Instance) → IsIn x ys → WasRow ys x
-same_row ys x i = record { was = x; there = i; key = refl; version = refl; stood = λ is. is }
+same_row ys x i = record { was = x; there = i; id = refl; key = refl; version = refl; stood = λ is. is }
 
 pub same_rows : (ys : List Instance) → FewRows ys ys
 same_rows ys x i = same_row ys x i
 
-pub same_entry : (ds : List Entry) (e : Entry) → IsIn e ds → e.is_stale ≡ false → WasEntry ds e
-same_entry ds e i fresh = record { was = e; there = i; name = refl; key = refl; version = refl; fresh = fresh }
+pub same_entry : (ds : List Entry) (e : Entry) → IsIn e ds → e.is_stale ≡ false → WasAsFar ds e
+same_entry ds e i fresh = record { one = record { was = e; there = i; name = refl; key = refl; version = refl; fresh = fresh }; extent = refl }
 
 pub same_entries : (ds : List Entry) → FewEntries ds ds
 same_entries ds e i fresh = same_entry ds e i fresh
 
-agrees_on : (e : Entry) (ys xs : List Instance) (ds es : List Entry) → FewRows ys xs → FewEntries ds es → Agrees e ys ds → Agrees e xs es
+pub agrees_on : (e : Entry) (ys xs : List Instance) (ds es : List Entry) → FewRows ys xs → EntriesAs ds es → Agrees e ys ds → Agrees e xs es
 agrees_on e ys xs ds es rows entries h = record {
   rows = λ x i stands is. (let w : WasRow ys x = rows x i in w.version ∙ h.rows w.was w.there (w.stood stands) (sym w.key ∙ is));
   kept = λ d i fresh is. (let w : WasEntry ds d = entries d i fresh in w.version ∙ h.kept w.was w.there w.fresh (sym w.key ∙ is));
@@ -78,19 +117,77 @@ agrees_on e ys xs ds es rows entries h = record {
 }
 
 -- the entry is what another was
-agrees_as : (e d : Entry) (xs : List Instance) (es : List Entry) → e.name ≡ d.name → e.key ≡ d.key → e.version ≡ d.version → Agrees d xs es → Agrees e xs es
+pub agrees_as : (e d : Entry) (xs : List Instance) (es : List Entry) → e.name ≡ d.name → e.key ≡ d.key → e.version ≡ d.version → Agrees d xs es → Agrees e xs es
 agrees_as e d xs es name key version h = record {
   rows = λ x i stands is. h.rows x i stands (is ∙ key) ∙ sym version;
   kept = λ f i fresh is. h.kept f i fresh (is ∙ key) ∙ sym version;
   named = name ∙ h.named ∙ ap name_of (sym key);
 }
 
-pub fewer : {R : Like} (ys xs : List Instance) (ds es : List Entry) (was todo : List Todo) → FewRows ys xs → FewEntries ds es → ((e : Entry) → IsIn (Enter e) todo → IsIn (Enter e) was) → Facts R ys ds was → Facts R xs es todo
-fewer ys xs ds es was todo rows entries left h = record {
-  each = λ e i fresh. (let w : WasEntry ds e = entries e i fresh in agrees_as e w.was xs es w.name w.key w.version (agrees_on w.was ys xs ds es rows entries (h.each w.was w.there w.fresh)));
-  next = λ e i. agrees_on e ys xs ds es rows entries (h.next e (left e i));
-  pending = λ e d i j is. h.pending e d (left e i) (left d j) is;
-  still = λ on e i. h.still on e (left e i);
+as_were : (ds es : List Entry) → FewEntries ds es → EntriesAs ds es
+as_were ds es entries e i fresh = (entries e i fresh).one
+
+whole_on : (ys xs : List Instance) (bs cs : List Chunk) (key was : Bytes) (extent far : ℕ) → FewRows ys xs → Fewer bs cs → key ≡ was → extent ≡ far → AllWhole ys bs was far → AllWhole xs cs key extent
+whole_on ys xs bs cs key was extent far rows fewer named reach h x i stands is =
+    let w : WasRow ys x = rows x i in
+    subst (λ (n : ℕ). Whole n x.id extent cs) (sym (ap (λ (v : Version). v.length) w.version))
+    (subst₂ (λ (id e : ℕ). Whole w.was.version.length id e cs) (sym w.id) (sym reach) (whole_fewer w.was.version.length w.was.id far bs cs fewer (h w.was w.there (w.stood stands) (sym named ∙ is ∙ w.key))))
+
+-- what was to be done is still to be
+pub fewer : {R : Like} (ys xs : List Instance) (ds es : List Entry) (todo : List Todo) (bs cs : List Chunk) (next_id : ℕ) → FewRows ys xs → FewEntries ds es → AreDistinct (map instance_id xs) → Fewer bs cs → ((c : Chunk) → IsIn c cs → IsIn c bs) → Facts R ys ds todo bs next_id → Facts R xs es todo cs next_id
+fewer ys xs ds es todo bs cs next_id rows entries differ chunks within h = record {
+  each = λ e i fresh. (let w : WasEntry ds e = (entries e i fresh).one in agrees_as e w.was xs es w.name w.key w.version (agrees_on w.was ys xs ds es rows (as_were ds es entries) (h.each w.was w.there w.fresh)));
+  next = λ e i. agrees_on e ys xs ds es rows (as_were ds es entries) (h.next e i);
+  pending = h.pending;
+  still = h.still;
+  once = λ e d i j fe fd is. (let v : WasAsFar ds e = entries e i fe in let w : WasAsFar ds d = entries d j fd in v.extent ∙ h.once v.one.was w.one.was v.one.there w.one.there v.one.fresh w.one.fresh (sym v.one.key ∙ is ∙ w.one.key) ∙ sym w.extent);
+  free = λ e d i j fd is. (let w : WasEntry ds d = (entries d j fd).one in h.free e w.was i w.there w.fresh (sym w.key ∙ is));
+  last = h.last;
+  whole = λ e i fresh. (let w : WasAsFar ds e = entries e i fresh in whole_on ys xs bs cs e.key w.one.was.key e.extent w.one.was.extent rows chunks w.one.key w.extent (h.whole w.one.was w.one.there w.one.fresh));
+  enters = λ e i. whole_on ys xs bs cs e.key e.key e.extent e.extent rows chunks refl refl (h.enters e i);
+  notes = λ key tag n extent i. whole_on ys xs bs cs key key extent extent rows chunks refl refl (h.notes key tag n extent i);
+  differ = differ;
+  given = λ x i. (let w : WasRow ys x = rows x i in subst (λ (n : ℕ). n < next_id) (sym w.id) (h.given w.was w.there));
+  chunks_given = λ c i. h.chunks_given c (within c i);
+}
+
+-- of each row that stands, chunks are what they were below each extent
+pub with_chunks : {R : Like} (xs : List Instance) (es : List Entry) (todo : List Todo) (bs cs : List Chunk) (next_id : ℕ) → ((x : Instance) → IsIn x xs × (x.is_retired ≡ false) → (extent : ℕ) → Whole x.version.length x.id extent bs → Whole x.version.length x.id extent cs)
+    → ((c : Chunk) → IsIn c cs → c.instance < next_id) → Facts R xs es todo bs next_id → Facts R xs es todo cs next_id
+with_chunks xs es todo bs cs next_id on given h = record {
+  each = h.each;
+  next = h.next;
+  pending = h.pending;
+  still = h.still;
+  once = h.once;
+  free = h.free;
+  last = h.last;
+  whole = λ e i fresh x j stands is. on x (j, stands) e.extent (h.whole e i fresh x j stands is);
+  enters = λ e i x j stands is. on x (j, stands) e.extent (h.enters e i x j stands is);
+  notes = λ key tag n extent i x j stands is. on x (j, stands) extent (h.notes key tag n extent i x j stands is);
+  differ = h.differ;
+  given = h.given;
+  chunks_given = given;
+}
+
+-- where nothing is on its way to the disk, those of each entry of a row
+pub with_joined : {R : Like} (xs : List Instance) (es : List Entry) (todo : List Todo) (bs cs : List Chunk) (next_id : ℕ) → Closed R
+    → ((x : Instance) → IsIn x xs → x.is_retired ≡ false → (e : Entry) → IsIn e es → e.is_stale ≡ false → e.key ≡ x.key → Whole x.version.length x.id e.extent bs → Whole x.version.length x.id e.extent cs)
+    → ((c : Chunk) → IsIn c cs → c.instance < next_id) → Facts R xs es todo bs next_id → Facts R xs es todo cs next_id
+with_joined xs es todo bs cs next_id closed on given h = record {
+  each = h.each;
+  next = h.next;
+  pending = h.pending;
+  still = h.still;
+  once = h.once;
+  free = h.free;
+  last = h.last;
+  whole = λ e i fresh x j stands is. on x j stands e i fresh is (h.whole e i fresh x j stands is);
+  enters = λ e i. absurd (subst (λ (ts : List Todo). IsIn (Enter e) ts) (h.still closed) i);
+  notes = λ key tag n extent i. absurd (subst (λ (ts : List Todo). IsIn (Acknowledge key tag n extent) ts) (h.still closed) i);
+  differ = h.differ;
+  given = h.given;
+  chunks_given = given;
 }
 
 -- ---- fewer of each
@@ -101,26 +198,28 @@ few_filtered p xs x i = same_row xs x (in_filter p x xs i).0
 pub few_moved : (p : Instance → Bool) (xs : List Instance) → FewRows xs (moved p xs)
 few_moved p xs x i = same_row xs x (in_moved p x xs i)
 
-pub few_changed : (p : Instance → Bool) (f : Instance → Instance) (xs : List Instance) → ((x : Instance) → (f x).key ≡ x.key) → ((x : Instance) → (f x).version ≡ x.version) → ((x : Instance) → (f x).is_retired ≡ false → x.is_retired ≡ false) → FewRows xs (change p f xs)
-few_changed p f xs key version stood x i = by (in_change p f x xs i)
+pub few_changed : (p : Instance → Bool) (f : Instance → Instance) (xs : List Instance) → ((x : Instance) → (f x).id ≡ x.id) → ((x : Instance) → (f x).key ≡ x.key) → ((x : Instance) → (f x).version ≡ x.version) → ((x : Instance) → (f x).is_retired ≡ false → x.is_retired ≡ false) → FewRows xs (change p f xs)
+few_changed p f xs id key version stood x i = by (in_change p f x xs i)
   where
     by : Changed p f xs x → WasRow xs x
     by (same j isnt) = same_row xs x j
     by (other y j hit eq) = record {
       was = y;
       there = j;
+      id = ap (λ (z : Instance). z.id) eq ∙ id y;
       key = ap (λ (z : Instance). z.key) eq ∙ key y;
       version = ap (λ (z : Instance). z.version) eq ∙ version y;
       stood = λ stands. stood y (ap (λ (z : Instance). z.is_retired) (sym eq) ∙ stands);
     }
 
-pub few_mapped : (f : Instance → Instance) (xs : List Instance) → ((x : Instance) → (f x).key ≡ x.key) → ((x : Instance) → (f x).version ≡ x.version) → ((x : Instance) → (f x).is_retired ≡ false → x.is_retired ≡ false) → FewRows xs (map f xs)
-few_mapped f xs key version stood x i = by (in_map f x xs i)
+pub few_mapped : (f : Instance → Instance) (xs : List Instance) → ((x : Instance) → (f x).id ≡ x.id) → ((x : Instance) → (f x).key ≡ x.key) → ((x : Instance) → (f x).version ≡ x.version) → ((x : Instance) → (f x).is_retired ≡ false → x.is_retired ≡ false) → FewRows xs (map f xs)
+few_mapped f xs id key version stood x i = by (in_map f x xs i)
   where
     by : From f xs x → WasRow xs x
     by r = record {
       was = r.was;
       there = r.there;
+      id = ap (λ (z : Instance). z.id) r.is ∙ id r.was;
       key = ap (λ (z : Instance). z.key) r.is ∙ key r.was;
       version = ap (λ (z : Instance). z.version) r.is ∙ version r.was;
       stood = λ stands. stood r.was (ap (λ (z : Instance). z.is_retired) (sym r.is) ∙ stands);
@@ -129,54 +228,19 @@ few_mapped f xs key version stood x i = by (in_map f x xs i)
 pub less_filtered : (p : Entry → Bool) (es : List Entry) → FewEntries es (filter p es)
 less_filtered p es e i fresh = same_entry es e (in_filter p e es i).0 fresh
 
-pub less_changed : (p : Entry → Bool) (f : Entry → Entry) (es : List Entry) → ((e : Entry) → (f e).name ≡ e.name) → ((e : Entry) → (f e).key ≡ e.key) → ((e : Entry) → (f e).version ≡ e.version) → ((e : Entry) → (f e).is_stale ≡ false → e.is_stale ≡ false) → FewEntries es (change p f es)
-less_changed p f es name key version freshly e i fresh = by (in_change p f e es i)
+pub less_changed : (p : Entry → Bool) (f : Entry → Entry) (es : List Entry) → ((e : Entry) → (f e).name ≡ e.name) → ((e : Entry) → (f e).key ≡ e.key) → ((e : Entry) → (f e).version ≡ e.version) → ((e : Entry) → (f e).extent ≡ e.extent) → ((e : Entry) → (f e).is_stale ≡ false → e.is_stale ≡ false) → FewEntries es (change p f es)
+less_changed p f es name key version extent freshly e i fresh = by (in_change p f e es i)
   where
-    by : Changed p f es e → WasEntry es e
+    by : Changed p f es e → WasAsFar es e
     by (same j isnt) = same_entry es e j fresh
     by (other d j hit eq) = record {
-      was = d;
-      there = j;
-      name = ap (λ (z : Entry). z.name) eq ∙ name d;
-      key = ap (λ (z : Entry). z.key) eq ∙ key d;
-      version = ap (λ (z : Entry). z.version) eq ∙ version d;
-      fresh = freshly d (ap (λ (z : Entry). z.is_stale) (sym eq) ∙ fresh);
+      one = record {
+        was = d;
+        there = j;
+        name = ap (λ (z : Entry). z.name) eq ∙ name d;
+        key = ap (λ (z : Entry). z.key) eq ∙ key d;
+        version = ap (λ (z : Entry). z.version) eq ∙ version d;
+        fresh = freshly d (ap (λ (z : Entry). z.is_stale) (sym eq) ∙ fresh);
+      };
+      extent = ap (λ (z : Entry). z.extent) eq ∙ extent d;
     }
-
--- ---- one more of each
-
--- each entry of its key, and what becomes one, is of its version
-pub row_pushed : {R : Like} (new : Instance) (xs : List Instance) (es : List Entry) (todo : List Todo) → ((e : Entry) → IsIn e es → e.is_stale ≡ false → new.key ≡ e.key → new.version ≡ e.version) → ((e : Entry) → IsIn (Enter e) todo → new.key ≡ e.key → new.version ≡ e.version)
-    → Facts R xs es todo → Facts R (xs ++ new ∷ []) es todo
-row_pushed new xs es todo entries waits h = record { each = λ e i fresh. more e (λ is. entries e i fresh is) (h.each e i fresh); next = λ e i. more e (λ is. waits e i is) (h.next e i); pending = h.pending; still = h.still }
-  where
-    more : (e : Entry) → (new.key ≡ e.key → new.version ≡ e.version) → Agrees e xs es → Agrees e (xs ++ new ∷ []) es
-    more e its a = record { rows = λ x i stands is. by x stands is (in_push x xs new i); kept = a.kept; named = a.named }
-      where
-        by : (x : Instance) → x.is_retired ≡ false → x.key ≡ e.key → IsIn x xs ⊎ (x ≡ new) → x.version ≡ e.version
-        by x stands is (inl j) = a.rows x j stands is
-        by x stands is (inr eq) = ap (λ (z : Instance). z.version) eq ∙ its (ap (λ (z : Instance). z.key) (sym eq) ∙ is)
-
--- what was to become one becomes an entry
-pub entry_pushed : {R : Like} (new : Entry) (xs : List Instance) (es : List Entry) (was todo : List Todo) → IsIn (Enter new) was → ((e : Entry) → IsIn (Enter e) todo → IsIn (Enter e) was) → Facts R xs es was → Facts R xs (es ++ new ∷ []) todo
-entry_pushed new xs es was todo waits left h = record {
-  each = λ e i fresh. one e fresh (in_push e es new i);
-  next = λ e i. more e (λ is. h.pending e new (left e i) waits is) (h.next e (left e i));
-  pending = λ e d i j is. h.pending e d (left e i) (left d j) is;
-  still = λ on e i. h.still on e (left e i);
-}
-  where
-    more : (e : Entry) → (new.key ≡ e.key → new.version ≡ e.version) → Agrees e xs es → Agrees e xs (es ++ new ∷ [])
-    more e its a = record { rows = a.rows; kept = λ d i fresh is. by d fresh is (in_push d es new i); named = a.named }
-      where
-        by : (d : Entry) → d.is_stale ≡ false → d.key ≡ e.key → IsIn d es ⊎ (d ≡ new) → d.version ≡ e.version
-        by d fresh is (inl j) = a.kept d j fresh is
-        by d fresh is (inr eq) = ap (λ (z : Entry). z.version) eq ∙ its (ap (λ (z : Entry). z.key) (sym eq) ∙ is)
-
-    one : (e : Entry) → e.is_stale ≡ false → IsIn e es ⊎ (e ≡ new) → Agrees e xs (es ++ new ∷ [])
-    one e fresh (inl i) = more e (λ is. sym ((h.next new waits).kept e i fresh (sym is))) (h.each e i fresh)
-    one e fresh (inr eq) = subst (λ (z : Entry). Agrees z xs (es ++ new ∷ [])) (sym eq) (more new (λ is. refl) (h.next new waits))
-
-pub dropped_in : (t : Todo) (todo : List Todo) → IsIn t (drop 1 todo) → IsIn t todo
-dropped_in t [] i = absurd i
-dropped_in t (d ∷ todo) i = inr i

@@ -2,6 +2,7 @@
 use Rattle.std.specs.Prelude.{◌≡◌, ◌≤◌, length}
 use Rattle.pp_cache.specs.Bounds.{IsBounded}
 use Rattle.pp_keeping.specs.Keeping.{KeepsAll, keeping}
+use Rattle.pp_links.specs.Links.{IsLinked}
 use Rattle.pp_proxy.specs.Handling.{Handles}
 use Rattle.pp_proxy.specs.Leaving.{Leaves}
 use Rattle.pp_proxy.specs.Moving.{LeadsOn, Turning}
@@ -24,6 +25,8 @@ pub record TakesEvent (event : Event) (x y : Turning) : Type 0 where
   pub kept : Turning
   pub handles : AreSeated x.moving.desk.state → Handles event x handled
   pub handled_bounded : IsBounded handled.moving.desk.state.cache
+  -- which connections are open, the log tells there too
+  pub handled_linked : IsLinked handled.log handled.moving.top handled.moving.links
   pub leaves : AreSeated handled.moving.desk.state → LeadsOn Leaves handled.moving left.moving handled.log left.log handled.faults left.faults
   pub leaves_shelf : left.shelf ≡ handled.shelf
   pub left_bounded : IsBounded left.moving.desk.state.cache

@@ -96,6 +96,7 @@ pub record HearsAt (i : ℕ) (x y : Turning) : Type 0 where
   pub hears : Hears (length roused.buffer.items) i roused.state.awake.items x.moving.links (sides roused) (sides y.moving.desk) x.log y.log
   pub numbers : numbers_of y.moving.desk.state.seats.items ≡ numbers_of x.moving.desk.state.seats.items
   pub rest : KeepsDesk roused (record y.moving.desk { buffer = roused.buffer })
+  pub long : length y.moving.desk.buffer.items ≡ length roused.buffer.items
   pub one : IsOfOne x y
 
 -- a client is said what is there for it, behind the read of its next chunk where that is on the disk alone

@@ -101,7 +101,7 @@ module _ (number0 number : ℕ → ℕ) (owed : Owed) (x y : Turning) (s v : Sta
       all_may_end number0 number name (parts p) z.parts s v stands.desk.turn.steps.shows.clients has.shown.steps.shows.clients stands.desk.turn.steps.order has.shown.steps.order rise has.quiet has.still
       (λ i seat here going. (settled i seat here).said going) next
 
-  has_ended : HasEnded number name (sides new) v (end_replies v)
+  pub has_ended : HasEnded number name (sides new) v (end_replies v)
   has_ended = all_end number name z v has.shown awake (sides new) looked_at may_leave all_may has.ends
 
   -- all that is no part of it

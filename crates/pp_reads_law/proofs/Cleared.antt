@@ -243,6 +243,11 @@ module _ (number : ℕ → ℕ) (shelf : KeptMap) (x next : Both) (s : State) (n
               past.law
               ∙ ap₂ (λ (j : Conn) (t : State). got past.less n (head_piece_of j text t).rest (head_piece_of j text t).state) (sym clear.to_is) (sym clear.then_is)
               ∙ ap (λ (p : Piece). got past.less n p.rest p.state) (final_is clear.is.then clear.is.before e it.head clear.is.due.due.front text it.whole it.final);
+          pieces = past.pieces;
+          comes = λ later.
+              past.comes later
+              ∙ ap₂ (λ (j : Conn) (t : State). got later n (head_piece_of j text t).rest (head_piece_of j text t).state) (sym clear.to_is) (sym clear.then_is)
+              ∙ ap (λ (p : Piece). got later n p.rest p.state) (final_is clear.is.then clear.is.before e it.head clear.is.due.due.front text it.whole it.final);
         };
       })
     where

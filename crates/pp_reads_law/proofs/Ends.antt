@@ -1,5 +1,5 @@
 -- The connection of an origin ended or broke where it was read, and the turn stands behind it.
-use Rattle.std.proofs.Common.{◌≡◌, refl, sym, subst, ap, ℕ, Bool, true, find, map, List, Option, Some, None}
+use Rattle.std.proofs.Common.{◌≡◌, refl, sym, subst, ap, ◌∙◌, ℕ, Bool, true, find, map, List, Option, Some, None}
 use Rattle.pp_cache.specs.Bounds.{IsBounded}
 use Rattle.pp_desk.proofs.ClosingLemmas.{piped_numbers}
 use Rattle.pp_desk.specs.Closings.{Sides, closed_conn, peer_numbers, sides}
@@ -7,6 +7,8 @@ use Rattle.pp_desk.specs.Replies.{EndsReplies}
 use Rattle.pp_desk.specs.declared.desk.Desk.{Desk}
 use Rattle.pp_endings_law.proofs.GoneEnds.{ends_gone}
 use Rattle.pp_events_law.proofs.Gone.{IsSoundAmid, amid_by}
+use Rattle.pp_events_law.proofs.Left.{AreLeft, left_then, replies_left}
+use Rattle.pp_events_law.proofs.ReadyBehind.{ready_behind}
 use Rattle.pp_events_law.specs.Stands.{AreReadyAt, IsHandled, StandsAtEvent}
 use Rattle.pp_events_law.specs.Ready.{StaysReady}
 use Rattle.pp_framing.specs.declared.body.Ending.{Ending}
@@ -14,7 +16,7 @@ use Rattle.pp_framing.specs.declared.body.Ending.TheVariants.{Whole, Short}
 use Rattle.pp_law.specs.After.{gone, paid}
 use Rattle.pp_law.specs.Connections.{is_conn}
 use Rattle.pp_law.specs.Lists.{Bytes}
-use Rattle.pp_law.specs.Replies.{end_replies}
+use Rattle.pp_law.specs.Replies.{end_replies, regained}
 use Rattle.pp_law.specs.Responses.{ended}
 use Rattle.pp_law.specs.State.{State, Conn, Term, Handling, ReadOf}
 use Rattle.pp_laws.proofs.Lists.{in_find}
@@ -38,12 +40,14 @@ use Rattle.pp_proxy.specs.Handling.{ReceivesOn}
 use Rattle.pp_proxy.specs.Moving.{Turning}
 use Rattle.pp_state.specs.Ends.{parts}
 use Rattle.pp_world.specs.Log.{Log}
-use Rattle.pp_reads_law.proofs.BehindRead.{StandsAmid, behind_handled, behind_ready}
+use Rattle.pp_reads_law.proofs.BehindRead.{StandsAmid, behind_handled, has_ended}
+use Rattle.pp_reads_law.proofs.GoneLeft.{origin_left}
+use Rattle.pp_reads_law.proofs.NextEnded.{ended_next}
 use Rattle.pp_reads_law.proofs.Knows.{knows_rest, knows_then}
 use Rattle.pp_reads_law.proofs.StayReads.{SidesStay, closed_stays, sides_then, whole_stays}
 use Rattle.pp_reads_law.proofs.Stayed.{stay_same}
 use Rattle.pp_reads_law.proofs.Thin.{follow_still, gone_thin}
-use Rattle.pp_reads_law.specs.Readable.{AreTold, MayRead}
+use Rattle.pp_reads_law.specs.Readable.{MayRead}
 use Rattle.pp_reads_law.specs.Stays.{KnowsAsMuch}
 
 -- ---- of the program
@@ -123,7 +127,16 @@ module _ (terms : List Term) (log : Log) (number : ℕ → ℕ) (k : ℕ) (x y :
   pub ended_handled : IsHandled number y.moving (paid (gone is_clean k s))
   ended_handled = subst (λ (t : State). IsHandled number y.moving (paid t)) (sym gone_is) (behind_handled number number (ReadOf k) x y s v z stands may.settled may.next rise amid bounded)
 
-  pub ended_ready : AreTold number y.moving (paid (gone is_clean k s)) → StaysReady number x y (paid (gone is_clean k s))
-  ended_ready told =
-      subst (λ (t : State). StaysReady number x y (paid t)) (sym gone_is)
-      (behind_ready number number (ReadOf k) x y s v z stands may.settled may.next rise amid bounded ready (subst (λ (t : State). AreTold number y.moving (paid t)) gone_is told))
+  all_left : AreLeft (parts old.state) (parts new.state)
+  all_left = left_then (parts old.state) z.parts (parts new.state) (origin_left is_clean k (sides old)) (replies_left old.state.awake.items z (sides new) ends)
+
+  -- no number is given
+  next_same : (paid (gone is_clean k s)).next_instance ≡ s.next_instance
+  unfolding paid regained
+  next_same =
+      ap (λ (t : State). t.next_instance) gone_is
+      ∙ ap (λ (t : State). t.next_instance) (has_ended number number (ReadOf k) x y s v z stands may.settled may.next rise amid bounded).rest
+      ∙ ended_next is_clean j s
+
+  pub ended_ready : StaysReady number x y (paid (gone is_clean k s))
+  ended_ready = ready_behind number x y s (paid (gone is_clean k s)) next_same all_left ended_handled.follows ready

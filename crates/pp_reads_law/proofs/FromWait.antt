@@ -28,7 +28,7 @@ use Rattle.pp_reads_law.proofs.Reading.{readings}
 use Rattle.pp_reads_law.specs.Readable.{HasLedTold, HasLedToldBehind, MayBeRead, MayBring, MayRead, OriginReadsLead}
 
 module _ (comes : HeadsComeAsTheLaws) (terms : List Term) (log : Log) (number : ℕ → ℕ) (k : ℕ) (x y : Turning) (s : State) (j : Conn) (obeys : Obeys terms s log) (stands : StandsAtEvent number Awaiting Free x.moving s) (ready : AreReadyAt number x.moving s) (may : MayBeRead k x s j)
-    (brings : (woken : Desk) → Wakes k x.moving.desk woken → MayBring k (at_desk woken x) (owed_read k s)) (bounded : IsBounded y.moving.desk.state.cache) (calm : y.moving.desk.state.is_astray ≡ false) (reads : ReadsAt k (come (Readable k) x) y) where
+    (brings : (woken : Desk) → Wakes k x.moving.desk woken → MayBring k (at_desk woken x) y (owed_read k s)) (bounded : IsBounded y.moving.desk.state.cache) (calm : y.moving.desk.state.is_astray ≡ false) (reads : ReadsAt k (come (Readable k) x) y) where
   abbrev old : Desk
   old = x.moving.desk
 
@@ -77,10 +77,10 @@ module _ (comes : HeadsComeAsTheLaws) (terms : List Term) (log : Log) (number : 
     next = all_go_on k s may.next;
   }
 
-  read : HasLedTold next y v
+  read : HasLedTold k next y v
   read = readings comes terms (log ++ CanRead k ∷ []) number k next y v (marked_conn s.clock j) obeys_now owed.stands owed.ready may_now (brings woken reads.wakes) bounded calm receives
 
-  pub read_behind : HasLedToldBehind (CanRead k) x y s
+  pub read_behind : HasLedToldBehind k x y s
   read_behind = record {
     number = read.number;
     led = record { log = read.led.log; then = read.led.then; told = read.led.handled.told; leads = lead_joined (CanRead k ∷ []) read.led.log s v read.led.then owed.leads read.led.handled.leads; handled = read.led.handled.handled };

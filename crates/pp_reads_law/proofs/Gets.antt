@@ -42,11 +42,11 @@ use Rattle.pp_reads_law.proofs.StayReads.{reads_stay}
 use Rattle.pp_reads_law.proofs.StillClients.{are_as, none, then}
 use Rattle.pp_reads_law.proofs.Supplied.{Moment, first, supplies}
 use Rattle.pp_reads_law.specs.Brings.{LeadsTo, ReadRestsOn}
-use Rattle.pp_reads_law.specs.Readable.{AreTold, MayBring, MayRead}
+use Rattle.pp_reads_law.specs.Readable.{AreTold, IsBrought, MayBring, MayRead}
 use Rattle.pp_reads_law.specs.Stays.{KnowsAsMuch, StaysBeside}
 
-module _ (comes : HeadsComeAsTheLaws) (terms : List Term) (log : Log) (number0 : ℕ → ℕ) (k : ℕ) (x y : Turning) (s : State) (j : Conn) (obeys : Obeys terms s log) (stands : StandsAtEvent number0 Handling (ReadOf k) x.moving s) (ready : AreReadyAt number0 x.moving s) (may : MayRead k x s j) (brings : MayBring k x s)
-    (bounded : IsBounded y.moving.desk.state.cache) (calm : y.moving.desk.state.is_astray ≡ false) (receives : ReceivesOn k x y) (begins next : Both) (same : Makes (λ z. z) (both x.moving.desk) begins) (bytes : Bytes) (few : length bytes ≤ 32768) (has_got : HasGot x.shelf k bytes begins next) (behind : EndsBehind (λ z. z) next (both y.moving.desk)) where
+module _ (comes : HeadsComeAsTheLaws) (terms : List Term) (log : Log) (number0 : ℕ → ℕ) (k : ℕ) (x y : Turning) (s : State) (j : Conn) (obeys : Obeys terms s log) (stands : StandsAtEvent number0 Handling (ReadOf k) x.moving s) (ready : AreReadyAt number0 x.moving s) (may : MayRead k x s j) (brings : MayBring k x y s)
+    (bounded : IsBounded y.moving.desk.state.cache) (calm : y.moving.desk.state.is_astray ≡ false) (receives : ReceivesOn k x y) (begins next : Both) (same : Makes (λ z. z) (both x.moving.desk) begins) (bytes : Bytes) (few : length bytes ≤ 32768) (brought : IsBrought k x y s bytes) (has_got : HasGot x.shelf k bytes begins next) (behind : EndsBehind (λ z. z) next (both y.moving.desk)) where
   abbrev old : Desk
   old = x.moving.desk
 
@@ -81,7 +81,10 @@ module _ (comes : HeadsComeAsTheLaws) (terms : List Term) (log : Log) (number0 :
   next_calm = replies_calm next.state.awake.items (sides_of next) (sides new) behind.is calm
 
   rests : ReadRestsOn name x.shelf k begins s bytes next
-  rests = brings.rests begins next bytes same has_got next_calm
+  rests = brings.rests begins next bytes brought same has_got next_calm
+
+  shown_begins : ShowsSides number0 name (sides_of begins) s
+  shown_begins = subst (λ (w : Sides). ShowsSides number0 name w s) (sym same.is) shown_old
 
   leads : LeadsTo x.shelf k begins next
   leads = record { more = 65600; behind = Some (remaining bytes []); then = has_got }
@@ -89,7 +92,7 @@ module _ (comes : HeadsComeAsTheLaws) (terms : List Term) (log : Log) (number0 :
   pub read : IsRead name next v
   read =
       read_whole comes name x.shelf k next (Moment name x.shelf k begins s bytes words knows.name next next_calm rests) (supplies name x.shelf k begins s bytes words knows.name next next_calm rests) 65600 number0 begins s bytes
-      (first name x.shelf k begins s bytes words knows.name next next_calm rests leads) (subst (λ (w : Sides). ShowsSides number0 name w s) (sym same.is) shown_old) (omega (arith, few)) has_got
+      (first name x.shelf k begins s bytes words knows.name next next_calm rests leads number0 shown_begins) shown_begins (omega (arith, few)) has_got
 
   abbrev pub number : ℕ → ℕ
   number = read.number
@@ -103,7 +106,7 @@ module _ (comes : HeadsComeAsTheLaws) (terms : List Term) (log : Log) (number0 :
   follow : AllFollow (parts next.state) v
   follow i seat c place going =
       let one : ShowsSeat number name [] seat c = shown_at number name [] next.state.seats.items v.clients seat.client.id i seat c read.shows.steps.shows.clients (is_at i next.state.seats.items seat read.shows.steps.order place.here) place.here place.there in
-      brings.followed begins next bytes same has_got i seat place.here (one.closing ∙ going)
+      brings.followed begins next bytes brought same has_got next_calm i seat place.here (one.closing ∙ going)
 
   amid : StandsAmid number0 number x y s v (sides_of next)
   amid = record {

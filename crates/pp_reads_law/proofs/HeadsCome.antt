@@ -1,7 +1,7 @@
 -- The final head of a response is taken, or refused, as by the law.
 use Rattle.std.proofs.Common.{◌≡◌, ◌≤◌, ◌⊎◌, inl, inr, refl, sym, subst, ap, ap₂, ◌∙◌, ℕ, Bool, true, false, not, ◌&&◌, ◌||◌, find, List, [], ◌∷◌, Option, Some, None, Result, Ok, Err, option_map, arith}
 use Rattle.std.specs.Prelude.{count_by, is_ok, nat_le, nat_lt, option_and_then, slice_get}
-use Rattle.pp_answers.specs.FinalHeads.{AnswersAsk, answer_to, rule_for}
+use Rattle.pp_answers.specs.FinalHeads.{AnswersAsk, TakesHead, answer_to, roomed_by, rule_for}
 use Rattle.pp_answers_law.specs.Owns.{IsAtHead, IsShown}
 use Rattle.pp_answers_law.specs.Takes.{IsTaken as IsTakenBySteps, OwnAnswersAreTheLaws, PassedAnswersAreTheLaws, PassesAlone, RulesAreTheLaws, law_rule}
 use Rattle.pp_cache_law.proofs.Finds.{find_passes}
@@ -28,7 +28,7 @@ use Rattle.pp_law.specs.OwnHeads.{is_wrong_head}
 use Rattle.pp_law.specs.Responses.{answer_for, answer_with, answered_by, asks_head, bad_head, begin_answer, bring_row, by_aim, end_if_empty, head_came, is_readable}
 use Rattle.pp_law.specs.State.{State, Answer, Client, Conn, Exchange, Own}
 use Rattle.pp_objects.specs.Instances.{Instance, is_row}
-use Rattle.pp_origins.specs.Gots.{Both, GoesOnBehind, HeadCame, HeadCameFor, IsTaken, IsTakenBy, head_on, sides_of, stays_by, staying}
+use Rattle.pp_origins.specs.Gots.{Both, GoesOnBehind, HeadCame, HeadCameFor, IsTaken, IsTakenBy, Makes, head_on, sides_of, stays_by, staying}
 use Rattle.pp_origins.specs.Responses.{bad_response}
 use Rattle.pp_peers.specs.Peers.{is_number, with_peer}
 use Rattle.pp_peers.specs.declared.peers.Peer.{Peer}
@@ -37,7 +37,7 @@ use Rattle.pp_pipe.specs.Front.{stays_open}
 use Rattle.pp_pipe.specs.Line.{Line}
 use Rattle.pp_pipe.specs.Reading.{Reading, Before, Within, Closed, Broken, head_in}
 use Rattle.pp_seats_law.specs.Exchanges.{ShowsExchange}
-use Rattle.pp_state.specs.Ends.{Parts, parts}
+use Rattle.pp_state.specs.Ends.{KeepsRest, Parts, parts}
 use Rattle.pp_state.specs.Keys.{key_of}
 use Rattle.pp_state.specs.Lines.{first_on}
 use Rattle.pp_state.specs.Pins.{forgotten_row, idle_row}
@@ -77,6 +77,34 @@ may_beside s t clients conns exchanges may = record {
 
     client_before : (a : ℕ) (c : Client) → find (is_client a) t.clients ≡ Some c → find (is_client a) s.clients ≡ Some c
     client_before a c found = sym (ap (λ (cs : List Client). find (is_client a) cs) clients) ∙ found
+
+-- ---- what stands beside the row of its key where a head is taken, and where it is refused
+
+pub record TakenHead (shelf : KeptMap) (x y : Both) (s : State) (k : Conn) (e : Exchange) (head : Response) (rule : BodyRule) : Type 0 where
+  pub entry : Entry
+  pub beside : Turn
+  pub law : State
+  pub number : ℕ → ℕ
+  pub peers : List Peer
+  pub at : IsAtHead number s.settings.name none_leaves peers beside law e.number entry e
+  pub row : HasRowFor shelf (key_of e.number x.state.flow) x.state beside
+  pub brought : law ≡ bring_row e head (on_conn k.number (answered_by (answer_with e head rule)) s)
+  pub forgotten : beside.forgotten ≡ law.forgotten
+  pub taken : TakesHead e.number entry.exchange entry.errand head rule beside (parts y.state)
+  pub rest : KeepsRest (roomed_by head (Some (entry, rule)) beside) y.state
+  pub begun : by_aim e head rule law ≡ begun_by k e head rule s
+
+pub record RefusedHead (shelf : KeptMap) (x y : Both) (s : State) (n : ℕ) (k : Conn) (e : Exchange) (head : Response) : Type 0 where
+  pub beside : Turn
+  pub law : State
+  pub number : ℕ → ℕ
+  pub peers : List Peer
+  pub shows : ShowsRead number none_leaves x.peers shelf beside law
+  pub row : HasRowFor shelf (key_of e.number x.state.flow) x.state beside
+  pub brought : law ≡ bring_row e head s
+  pub ends : sides_of y ≡ bad_response n (record { parts = parts beside; peers = peers })
+  pub rest : KeepsRest beside y.state
+  pub law_is : head_came k head s ≡ bad_head k law
 
 -- ---- a row that comes in leaves exchanges as they were
 
@@ -129,6 +157,9 @@ module _ (rules : RulesAreTheLaws) (own_answers : OwnAnswersAreTheLaws) (passed_
 
   line_is : line_of n x.state.flow.placed ≡ e.number ∷ first.others
   line_is = steps.shows.exchanges.lines n ∙ ap (λ (o : Option Conn). line_in o) due.due.on.there ∙ first.line
+
+  pub first_is : first_on n (parts x.state) ≡ Some e.number
+  first_is = ap (λ (ns : List ℕ). slice_get ns 0) line_is
 
   -- ---- its entry
 
@@ -372,6 +403,50 @@ module _ (rules : RulesAreTheLaws) (own_answers : OwnAnswersAreTheLaws) (passed_
       where
         goes_on : stays ≡ Some (stays_open head) → y ≡ record old { state = between; peers = staying n (stays_open head) (find (is_number n) old.peers) old.peers }
         goes_on is_it = subst (λ (o : Option Bool). GoesOnBehind o n (record old { state = between }) y) is_it it.answers.goes_on
+
+    pub taken_head : is_wrong_head e head ≡ false → TakenHead shelf x y s k e head rule
+    taken_head is =
+        let answers : answer_to head (entry_of e.number p.flow) ≡ Some (entry, rule) = answer_is p flow_same false is in
+        let one : IsAmidRead none_leaves last_peers shelf p brings =
+        brought number none_leaves last_peers shelf x.state p begun e.number entry e head begun_read begun_room here shown readable it.row given.row given.bounded in
+        let goes : y ≡ record old { state = between; peers = staying n (stays_open head) (find (is_number n) old.peers) old.peers } =
+        subst (λ (o : Option Bool). GoesOnBehind o n (record old { state = between }) y) (taken.stays_is ∙ ap (λ (o : Option (Entry × BodyRule)). stays_by head o) answers) it.answers.goes_on in
+        let state : y.state ≡ between = ap (λ (z : Both). z.state) goes in
+        record {
+          entry = entry;
+          beside = p;
+          law = brings;
+          number = one.number;
+          peers = last_peers;
+          at = at_head one.number p between one.shows flow_same;
+          row = it.row;
+          brought = refl;
+          forgotten = one.shows.forgotten;
+          taken = subst (λ (q : Turn). TakesHead e.number entry.exchange entry.errand head rule p (parts q)) (sym state) (subst (λ (o : Option (Entry × BodyRule)). AnswersAsk e.number head o p (parts between)) answers taken.is);
+          rest = subst (λ (q : Turn). KeepsRest (roomed_by head (Some (entry, rule)) p) q) (sym state) (subst (λ (o : Option (Entry × BodyRule)). KeepsRest (roomed_by head o p) between) answers taken.rest);
+          begun = brings_is;
+        }
+
+    pub refused_head : is_wrong_head e head ≡ true → RefusedHead shelf x y s n k e head
+    refused_head is =
+        let none_answers : answer_to head (entry_of e.number p.flow) ≡ None = answer_is p flow_same true is in
+        let one : IsAmidRead none_leaves x.peers shelf p beside = brought number none_leaves x.peers shelf x.state p s e.number entry e head shows.read may.room here shown readable it.row given.row given.bounded in
+        let makes : Makes (bad_response n) (record old { state = between }) y =
+        subst (λ (o : Option Bool). GoesOnBehind o n (record old { state = between }) y) (taken.stays_is ∙ ap (λ (o : Option (Entry × BodyRule)). stays_by head o) none_answers) it.answers.goes_on in
+        let same : parts between ≡ parts p = subst (λ (o : Option (Entry × BodyRule)). AnswersAsk e.number head o p (parts between)) none_answers taken.is in
+        let kept : KeepsRest p between = subst (λ (o : Option (Entry × BodyRule)). KeepsRest (roomed_by head o p) between) none_answers taken.rest in
+        record {
+          beside = p;
+          law = beside;
+          number = one.number;
+          peers = old.peers;
+          shows = one.shows;
+          row = it.row;
+          brought = refl;
+          ends = makes.is ∙ ap (λ (q : Parts). let z : Sides = record { parts = q; peers = old.peers } in bad_response n z) same;
+          rest = ap (λ (q : Turn). record q { seats = p.seats; flow = p.flow; cache = p.cache; refused = p.refused; is_astray = p.is_astray }) makes.rest ∙ kept;
+          law_is = law_wrong is;
+        }
 
   leads : (o : Option ℕ) → o ≡ Some e.number → (it : HeadCameFor o shelf n old y) → IsGivenHead o shelf n old y it → y.state.refused ≡ [] → HeadLeads (is_wrong_head e head) y s n k e head rule
   leads None is it given none = absurd (none_some e.number is)

@@ -16,12 +16,14 @@ pub mod FromWait
 pub mod Fronts
 pub mod Gets
 pub mod Given
+pub mod GoneLeft
 pub mod Going
 pub mod Gotten
 pub mod HeadsCome
 pub mod KeysGiven
 pub mod Knows
 pub mod Lost
+pub mod NextEnded
 pub mod NotYet
 pub mod Nothing
 pub mod Owed

@@ -1,5 +1,5 @@
 -- Interim heads are dropped piece by piece.
-use Rattle.std.proofs.Common.{◌≡◌, ◌⊎◌, inl, inr, ◌<◌, ◌≤◌, refl, sym, subst, ap, ap₂, ◌∙◌, ℕ, zero, suc, Bool, true, false, drop, length, take, List, [], ◌∷◌, ◌++◌, Option, Some, None, arith}
+use Rattle.std.proofs.Common.{◌≡◌, ◌+◌, ◌⊎◌, inl, inr, ◌<◌, ◌≤◌, refl, sym, subst, ap, ap₂, ◌∙◌, ℕ, zero, suc, Bool, true, false, drop, length, take, List, [], ◌∷◌, ◌++◌, Option, Some, None, arith}
 use Rattle.std.proofs.lemmas.Bool.{cases_lt}
 use Rattle.std.proofs.lemmas.List.{length-append, length-drop, take-append-drop, take-append-le}
 use Rattle.pp_cache_law.proofs.Finds.{find_passes}
@@ -72,6 +72,12 @@ next_is s n k bytes is =
 
 -- ---- by how many pieces there may be
 
+one_more : (l : ℕ) → 1 + l ≡ suc l
+one_more l = omega arith
+
+more_pieces : (m l : ℕ) → suc m + l ≡ suc (m + l)
+more_pieces m l = omega arith
+
 abbrev Passes : ℕ → ℕ → Type 0
 Passes more n = (s : State) (k : Conn) (b : ℕ) (bytes : Bytes) (most : ℕ) → length (b ∷ bytes) ≤ more → length (k.unread ++ b ∷ bytes) ≤ most → IsAmidHead s n k → (response_at (past_interim most (k.unread ++ b ∷ bytes)) ≡ More → ⊥)
     → IsPassedTo more s n k (b ∷ bytes) (past_interim most (k.unread ++ b ∷ bytes))
@@ -83,8 +89,11 @@ module _ (more n : ℕ) (passes : Passes more n) (s : State) (k : Conn) (b : ℕ
   at : k.number ≡ n
   at = same_number k.number n (find_passes (is_conn n) s.conns k is.there)
 
+  by_pieces : (later : ℕ) (v : Read Response) → response_at text ≡ v → got (suc later) n (b ∷ bytes) s ≡ got later n (pieces s k text v).rest (pieces s k text v).state
+  by_pieces later v whole = got_step later n b bytes s k (record { there = is.there; goes_on = is.goes_on }) ∙ ap (λ (p : Piece). got later n p.rest p.state) (next_is s n k (b ∷ bytes) is ∙ ap (λ (u : Read Response). pieces s k text u) whole)
+
   step : (v : Read Response) → response_at text ≡ v → got (suc more) n (b ∷ bytes) s ≡ got more n (pieces s k text v).rest (pieces s k text v).state
-  step v whole = got_step more n b bytes s k (record { there = is.there; goes_on = is.goes_on }) ∙ ap (λ (p : Piece). got more n p.rest p.state) (next_is s n k (b ∷ bytes) is ∙ ap (λ (u : Read Response). pieces s k text u) whole)
+  step v whole = by_pieces more v whole
 
   shorter : (head : Response) → response_at text ≡ Whole head → length (drop head.length text) ≤ more
   shorter head whole = omega (arith, longer k.unread (b ∷ bytes) head is.unread whole, few, length-drop head.length text, length-append k.unread (b ∷ bytes))
@@ -94,7 +103,16 @@ module _ (more n : ℕ) (passes : Passes more n) (s : State) (k : Conn) (b : ℕ
 
   -- it stands there
   itself : IsPassedTo (suc more) s n k (b ∷ bytes) text
-  itself = record { before = k; then = s; stands = inl (refl, refl); less = more; law = step (response_at text) refl; enough = λ head whole. shorter head whole }
+  itself = record {
+    before = k;
+    then = s;
+    stands = inl (refl, refl);
+    less = more;
+    law = step (response_at text) refl;
+    enough = λ head whole. shorter head whole;
+    pieces = 1;
+    comes = λ further. ap (λ (i : ℕ). got i n (b ∷ bytes) s) (one_more further) ∙ by_pieces further (response_at text) refl;
+  }
 
   later : (head : Response) → response_at text ≡ Whole head → is_interim head.status ≡ true → (rest : Bytes) → drop head.length text ≡ rest → (response_at (past_interim most rest) ≡ More → ⊥) → IsPassedTo (suc more) s n k (b ∷ bytes) (past_interim most rest)
   later head whole interim [] drops some = absurd (some (ap response_at (past_nothing most) ∙ none_read))
@@ -106,15 +124,20 @@ module _ (more n : ℕ) (passes : Passes more n) (s : State) (k : Conn) (b : ℕ
         then = one.then;
         stands = cleared_to s n k one.before one.then one.stands;
         less = one.less;
-        law =
-            step (Whole head) whole
-            ∙ ap (λ (w : Bool). got more n (interim_by w).rest (interim_by w).state) interim
-            ∙ ap₂ (λ (i : ℕ) (bs : Bytes). got more n bs (on_conn i (with_unread []) s)) at drops ∙ one.law;
+        law = past_it more ∙ one.law;
         enough = one.enough;
+        pieces = suc one.pieces;
+        comes = λ further. ap (λ (i : ℕ). got i n (b ∷ bytes) s) (more_pieces one.pieces further) ∙ past_it (one.pieces + further) ∙ one.comes further;
       }
     where
       interim_by : Bool → Piece
       interim_by w = elim w as (λ p. Piece) [ true ↦ record { state = on_conn k.number (with_unread []) s; rest = drop head.length text } | false ↦ record { state = head_came k head s; rest = drop head.length text } ]
+
+      past_it : (later : ℕ) → got (suc later) n (b ∷ bytes) s ≡ got later n (c ∷ rest) (on_conn n (with_unread []) s)
+      past_it later =
+          by_pieces later (Whole head) whole
+          ∙ ap (λ (w : Bool). got later n (interim_by w).rest (interim_by w).state) interim
+          ∙ ap₂ (λ (i : ℕ) (bs : Bytes). got later n bs (on_conn i (with_unread []) s)) at drops
 
   by_kind : (head : Response) (w : Bool) → response_at text ≡ Whole head → is_interim head.status ≡ w → (response_at (on_from most text head w) ≡ More → ⊥) → IsPassedTo (suc more) s n k (b ∷ bytes) (on_from most text head w)
   by_kind head false whole is_it some = itself

@@ -151,7 +151,7 @@ module _ (comes : HeadsComeAsTheLaws) (name : Bytes) (shelf : KeptMap) (n : ℕ)
           let long : length later.bytes ≤ length here.bytes = not_longer n shelf (going_on (find (is_number n) z.peers)) here later z run.0 run.1 is run.2 in
           let low : length (body_piece k a (b ∷ bytes) s).rest ≤ length here.bytes = subst (λ (r : Remains). length r.bytes ≤ length here.bytes) same long in
           follows number m (length bytes) run.0 s (body_piece k a (b ∷ bytes) s).state (b ∷ bytes) (body_piece k a (b ∷ bytes) s).rest run.1 between (is ∙ ap (λ (r : Remains). Some r) same) run.3 law (omega (arith, fewer))
-          (sup.behind number x z run.0 s k a peer e (b ∷ bytes) here run.1 m holds it on run.2 run.3 piece) piece.shows (omega (arith, room (length (body_piece k a (b ∷ bytes) s).rest) low fewer))
+          (sup.behind number x z run.0 s k a peer e b bytes here run.1 m holds it on run.2 run.3 piece) piece.shows (omega (arith, room (length (body_piece k a (b ∷ bytes) s).rest) low fewer))
 
       by : GoesOnAmid x run.0 n peer a (b ∷ bytes) here run.1 ⊎ PieceIsOver number name run.0 s k a (b ∷ bytes) run.1 → Ends s (b ∷ bytes)
       by (inl later) =
@@ -187,17 +187,19 @@ module _ (comes : HeadsComeAsTheLaws) (name : Bytes) (shelf : KeptMap) (n : ℕ)
 
     taken_at : (taken : HeadIsTaken next then n it.there.before e it.got.head it.got.rule) → is_wrong_head e it.got.head ≡ false → ((body_of it.got.rule []).outcome ≡ Going) ⊎ ((body_of it.got.rule []).outcome ≡ Done []) → Ends s (b ∷ bytes)
     unfolding GotFrom end_if_empty
-    taken_at taken right (inl going) =
-        goes_on taken.number
-        (subst (λ (u : State). ShowsSides taken.number then.settings.name (sides_of next) u)
-        (sym
-        (taken.law
-        ∙ ap (λ (o : Outcome). elim o as (λ u. State) [
-          | Done r ↦ finish it.there.before e (answer_with e it.got.head it.got.rule) (begun_by it.there.before e it.got.head it.got.rule then)
-          | Going ↦ begun_by it.there.before e it.got.head it.got.rule then
-          | NoBody ↦ begun_by it.there.before e it.got.head it.got.rule then
-        ]) going))
-        (shows_there shelf it.there.begin next then n it.there.before e it.there.peer it.got.head it.got.rule it.there.shows.may it.there.due taken (given.end right))) (given.holds (inr going))
+    taken_at taken right (inl going) = goes_on taken.number shown (given.holds taken.number shown (inr going))
+      where
+        shown : ShowsSides taken.number then.settings.name (sides_of next) t
+        shown =
+            subst (λ (u : State). ShowsSides taken.number then.settings.name (sides_of next) u)
+            (sym
+            (taken.law
+            ∙ ap (λ (o : Outcome). elim o as (λ u. State) [
+              | Done r ↦ finish it.there.before e (answer_with e it.got.head it.got.rule) (begun_by it.there.before e it.got.head it.got.rule then)
+              | Going ↦ begun_by it.there.before e it.got.head it.got.rule then
+              | NoBody ↦ begun_by it.there.before e it.got.head it.got.rule then
+            ]) going))
+            (shows_there shelf it.there.begin next then n it.there.before e it.there.peer it.got.head it.got.rule it.there.shows.may it.there.due taken (given.end right))
     taken_at taken right (inr done) = by m refl (subst (λ (o : Option Remains). GotFrom m shelf n o next y) it.got.leaves run)
       where
         by : (i : ℕ) → m ≡ i → GotFrom i shelf n (Some (remaining rest [])) next y → Ends s (b ∷ bytes)
@@ -205,7 +207,7 @@ module _ (comes : HeadsComeAsTheLaws) (name : Bytes) (shelf : KeptMap) (n : ℕ)
         by (suc j) is last =
             let one : EndsAtOnce taken.number last.0 then it.there.before it.got.head rest last.1 =
             empties_end shelf it.there.begin next last.0 then n it.there.before e it.there.peer it.got.head it.got.rule [] rest last.1 it.there.shows.may it.there.due taken (given.end right) done last.2 in
-            follows taken.number j it.got.less last.0 s t (b ∷ bytes) rest last.1 (below j is) one.leaves last.3 it.got.law it.got.enough (given.ends last.0 last.1 j right done last.2 last.3) (at_name taken.number last.0 t one.shows)
+            follows taken.number j it.got.less last.0 s t (b ∷ bytes) rest last.1 (below j is) one.leaves last.3 it.got.law it.got.enough (given.ends taken.number last.0 last.1 j one.shows right done last.2 last.3) (at_name taken.number last.0 t one.shows)
             (omega (arith, fuel, is, it.got.fewer))
 
     head_got : Ends s (b ∷ bytes)
@@ -214,7 +216,7 @@ module _ (comes : HeadsComeAsTheLaws) (name : Bytes) (shelf : KeptMap) (n : ℕ)
         (comes number shelf it.there.begin next then n it.there.before e it.there.peer it.got.head it.got.rule it.got.left it.there.shows it.there.due it.got.read given.may it.got.came given.given given.refused)
       where
         by : (c : Bool) → is_wrong_head e it.got.head ≡ c → HeadLeads c next then n it.there.before e it.got.head it.got.rule → Ends s (b ∷ bytes)
-        by true is refused = goes_on refused.number refused.shows (given.holds (inl is))
+        by true is refused = goes_on refused.number refused.shows (given.holds refused.number refused.shows (inl is))
         by false is taken = taken_at taken is (empty_or_going it.got.rule)
 
   -- ---- between two pieces

@@ -41,7 +41,7 @@ use Rattle.pp_reads_law.proofs.Ends.{ended_handled, ended_ready}
 use Rattle.pp_reads_law.proofs.Gets.{got_handled, got_ready, number as number_behind}
 use Rattle.pp_reads_law.proofs.NotYet.{none_handled, none_ready}
 use Rattle.pp_reads_law.proofs.Rooms.{rooms_same}
-use Rattle.pp_reads_law.specs.Readable.{HasLedTold, MayBring, MayRead, ReadingsLead}
+use Rattle.pp_reads_law.specs.Readable.{HasLedTold, IsBrought, MayBring, MayRead, ReadingsLead}
 
 -- ---- lengths
 
@@ -63,7 +63,7 @@ fits n front room is same m some within = ap₂ (λ (a b : Bool). a && b) (at_le
 few_enough : (front room m : ℕ) → front ≡ min room 32768 → m ≤ front → m ≤ 32768
 few_enough front room m is within = omega (arith, is, within)
 
-module _ (comes : HeadsComeAsTheLaws) (terms : List Term) (log : Log) (number : ℕ → ℕ) (k : ℕ) (x y : Turning) (s : State) (j : Conn) (obeys : Obeys terms s log) (stands : StandsAtEvent number Handling (ReadOf k) x.moving s) (ready : AreReadyAt number x.moving s) (may : MayRead k x s j) (brings : MayBring k x s)
+module _ (comes : HeadsComeAsTheLaws) (terms : List Term) (log : Log) (number : ℕ → ℕ) (k : ℕ) (x y : Turning) (s : State) (j : Conn) (obeys : Obeys terms s log) (stands : StandsAtEvent number Handling (ReadOf k) x.moving s) (ready : AreReadyAt number x.moving s) (may : MayRead k x s j) (brings : MayBring k x y s)
     (bounded : IsBounded y.moving.desk.state.cache) (calm : y.moving.desk.state.is_astray ≡ false) (receives : ReceivesOn k x y) where
   abbrev old : Desk
   old = x.moving.desk
@@ -91,7 +91,7 @@ module _ (comes : HeadsComeAsTheLaws) (terms : List Term) (log : Log) (number : 
 
   -- ---- nothing yet
 
-  nothing : AppendsAll x.log y.log (read_log k (Some (Ok NotYet)) it.front) → both y.moving.desk ≡ it.begins → HasLedTold x y s
+  nothing : AppendsAll x.log y.log (read_log k (Some (Ok NotYet)) it.front) → both y.moving.desk ≡ it.begins → HasLedTold k x y s
   nothing told is =
       let same : Makes (λ z. z) (both old) (both y.moving.desk) = subst (λ (b : Both). Makes (λ z. z) (both old) b) (sym is) it.same in
       record {
@@ -110,7 +110,7 @@ module _ (comes : HeadsComeAsTheLaws) (terms : List Term) (log : Log) (number : 
 
   -- ---- it ended, or broke
 
-  ended : AppendsAll x.log y.log (read_log k (Some (Ok End)) it.front) → EndsBehind (origin_gone true k) it.begins (both y.moving.desk) → HasLedTold x y s
+  ended : AppendsAll x.log y.log (read_log k (Some (Ok End)) it.front) → EndsBehind (origin_gone true k) it.begins (both y.moving.desk) → HasLedTold k x y s
   ended told behind = record {
     number = number;
     led = record {
@@ -122,7 +122,7 @@ module _ (comes : HeadsComeAsTheLaws) (terms : List Term) (log : Log) (number : 
         handled = ended_handled terms log number k x y s j obeys stands ready may bounded receives it.begins it.same true behind;
       };
     };
-    ready = ended_ready terms log number k x y s j obeys stands ready may bounded receives it.begins it.same true behind;
+    ready = λ all. ended_ready terms log number k x y s j obeys stands ready may bounded receives it.begins it.same true behind;
   }
 
   -- attempts count anew no more
@@ -133,7 +133,7 @@ module _ (comes : HeadsComeAsTheLaws) (terms : List Term) (log : Log) (number : 
   owed_it : is_owed s k ≡ true
   owed_it = ap (λ (o : Owed). is_reading o k || is_writing o k) stands.law.owes ∙ ap (λ (b : Bool). b || false) (same_itself k)
 
-  broken : (fault : WireFault) → AppendsAll x.log y.log (read_log k (Some (Err fault)) it.front) → EndsBehind (origin_gone false k) it.begins (both y.moving.desk) → HasLedTold x y s
+  broken : (fault : WireFault) → AppendsAll x.log y.log (read_log k (Some (Err fault)) it.front) → EndsBehind (origin_gone false k) it.begins (both y.moving.desk) → HasLedTold k x y s
   broken fault told behind = record {
     number = number;
     led = record {
@@ -145,7 +145,7 @@ module _ (comes : HeadsComeAsTheLaws) (terms : List Term) (log : Log) (number : 
         handled = ended_handled terms log number k x y s j obeys stands ready may bounded receives it.begins it.same false behind;
       };
     };
-    ready = ended_ready terms log number k x y s j obeys stands ready may bounded receives it.begins it.same false behind;
+    ready = λ all. ended_ready terms log number k x y s j obeys stands ready may bounded receives it.begins it.same false behind;
   }
 
   -- ---- bytes came
@@ -163,31 +163,37 @@ module _ (comes : HeadsComeAsTheLaws) (terms : List Term) (log : Log) (number : 
     permitted : is_read (room_by_law s k) bytes ≡ true
     permitted = subst (λ (m : ℕ). (nat_le 1 m && nat_le m (min 32768 (room_by_law s k))) ≡ true) (sym as_long) (fits (room_by_law s k) (length it.front) (read_room k (parts old.state)) it.room rooms n within.0 within.1)
 
-    came : HasLedTold x y s
+    was_told : AppendsAll x.log y.log (λ l. Got k bytes ∷ [])
+    was_told = told_as x.log y.log (read_log k (Some (Ok (Came n))) it.front) (Got k bytes ∷ []) told (λ l is. ap (λ (o : Option Side). by_side o (Heard k bytes) (Got k bytes) ∷ []) (side l is))
+
+    brought : IsBrought k x y s bytes
+    brought = record { told = was_told; fits = permitted }
+
+    came : HasLedTold k x y s
     came = record {
-      number = number_behind comes terms log number k x y s j obeys stands ready may brings bounded calm receives it.begins next it.same bytes few has_got behind;
+      number = number_behind comes terms log number k x y s j obeys stands ready may brings bounded calm receives it.begins next it.same bytes few brought has_got behind;
       led = record {
         log = Got k bytes ∷ [];
         then = paid (end_replies (got (length bytes) k bytes s));
         handled = record {
-          told = told_as x.log y.log (read_log k (Some (Ok (Came n))) it.front) (Got k bytes ∷ []) told (λ l is. ap (λ (o : Option Side). by_side o (Heard k bytes) (Got k bytes) ∷ []) (side l is));
+          told = was_told;
           leads = one_leads s (paid (end_replies (got (length bytes) k bytes s))) (Got k bytes) refl (goes_got s k bytes stands.law.none stands.law.owes permitted);
-          handled = got_handled comes terms log number k x y s j obeys stands ready may brings bounded calm receives it.begins next it.same bytes few has_got behind;
+          handled = got_handled comes terms log number k x y s j obeys stands ready may brings bounded calm receives it.begins next it.same bytes few brought has_got behind;
         };
       };
-      ready = got_ready comes terms log number k x y s j obeys stands ready may brings bounded calm receives it.begins next it.same bytes few has_got behind;
+      ready = λ all. got_ready comes terms log number k x y s j obeys stands ready may brings bounded calm receives it.begins next it.same bytes few brought has_got behind (all bytes refl);
     }
 
   -- ---- by what was found
 
-  by_found : (found : Found) → is_some found ≡ true → AppendsAll x.log y.log (read_log k found it.front) → IfSome found (λ r. IfOk r (IsWithin (length it.front))) → IsReceived found x.shelf k it.front it.begins (both y.moving.desk) → HasLedTold x y s
+  by_found : (found : Found) → is_some found ≡ true → AppendsAll x.log y.log (read_log k found it.front) → IfSome found (λ r. IfOk r (IsWithin (length it.front))) → IsReceived found x.shelf k it.front it.begins (both y.moving.desk) → HasLedTold k x y s
   by_found None none told within is = absurd (cc none)
   by_found (Some (Ok (Came n))) some told within is = came n told within is.0 is.1 is.2
   by_found (Some (Ok End)) some told within is = ended told is
   by_found (Some (Ok NotYet)) some told within is = nothing told is
   by_found (Some (Err fault)) some told within is = broken fault told is
 
-  pub read_led : HasLedTold x y s
+  pub read_led : HasLedTold k x y s
   read_led = by_found it.found called it.told it.within it.is
 
 pub readings : HeadsComeAsTheLaws → ReadingsLead

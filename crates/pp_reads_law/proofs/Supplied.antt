@@ -10,7 +10,6 @@ use Rattle.pp_obeys.proofs.Frames.{Frame, Stays, frame, frame_of, stays}
 use Rattle.pp_origins.specs.Gots.{Both, GotFrom, IsStepOn, Remains, going_on, remaining, sides_of}
 use Rattle.pp_peers.specs.Peers.{is_number}
 use Rattle.pp_peers.specs.declared.peers.Peer.{Peer}
-use Rattle.pp_reads_law.specs.Bads.{IsOpen}
 use Rattle.pp_reads_law.specs.Clears.{HeadIsGot, StandsBefore}
 use Rattle.pp_reads_law.specs.Heads.{with_head}
 use Rattle.pp_reads_law.specs.Pieces.{IsAmidBody, IsWithinBody, PieceIsOver}
@@ -21,7 +20,7 @@ use Rattle.pp_state.specs.declared.state.State.{State as Turn}
 use Rattle.pp_steps_law.specs.Steps.{ShowsSteps}
 use Rattle.pp_store.specs.Kept.{KeptMap}
 use Rattle.pp_reads_law.proofs.Calm.{head_given}
-use Rattle.pp_reads_law.proofs.Framed.{framed_by, none_framed, piece_framed}
+use Rattle.pp_reads_law.proofs.Framed.{framed_by, piece_framed}
 use Rattle.pp_reads_law.proofs.Knows.{knows_same, knows_then}
 use Rattle.pp_reads_law.proofs.StayReads.{head_stays, reads_stay, step_stays}
 use Rattle.pp_reads_law.specs.Brings.{HeadRestsOn, IsBehindHead, IsBehindPiece, IsMoment, LeadsTo, ReadRestsOn, RestsOn}
@@ -35,13 +34,15 @@ module _ (name : Bytes) (shelf : KeptMap) (n : ℕ) (begins : Both) (from : Stat
     pub knows : KnowsAsMuch begins.state x.state
     pub framed : Stays false (frame false from) s
     pub leads : LeadsTo shelf n x ends
+    pub number : ℕ → ℕ
+    pub shows : ShowsSides number name (sides_of x) s
 
   on : (x : Both) (s : State) (bytes : Bytes) → Moment x s bytes → RestsOn shelf n ends x s bytes
-  on x s bytes m = rests m.pieces x s bytes m.is m.leads
+  on x s bytes m = rests m.pieces x s bytes m.is m.leads m.number m.shows
 
-  pub first : LeadsTo shelf n begins ends → Moment begins from all
+  pub first : LeadsTo shelf n begins ends → (number : ℕ → ℕ) → ShowsSides number name (sides_of begins) from → Moment begins from all
   unfolding IsMoment
-  first leads = record { pieces = 0; is = (refl, refl, refl); knows = knows_same begins.state; framed = stays refl; leads = leads }
+  first leads number shows = record { pieces = 0; is = (refl, refl, refl); knows = knows_same begins.state; framed = stays refl; leads = leads; number = number; shows = shows }
 
   -- ---- what the turn shows
 
@@ -76,9 +77,18 @@ module _ (name : Bytes) (shelf : KeptMap) (n : ℕ) (begins : Both) (from : Stat
 
   -- ---- one moment behind the other
 
-  next_is : (x next : Both) (s t : State) (bytes rest : Bytes) → (m : Moment x s bytes) → IsBehindHead shelf n x s bytes next t rest ⊎ IsBehindPiece name shelf n x s bytes next t rest → KnowsAsMuch x.state next.state → Stays false (frame false from) t → LeadsTo shelf n next ends → Moment next t rest
+  next_is : (x next : Both) (s t : State) (bytes rest : Bytes) → (m : Moment x s bytes) → IsBehindHead shelf n x s bytes next t rest ⊎ IsBehindPiece name shelf n x s bytes next t rest → KnowsAsMuch x.state next.state → Stays false (frame false from) t → LeadsTo shelf n next ends
+      → (number : ℕ → ℕ) → ShowsSides number name (sides_of next) t → Moment next t rest
   unfolding IsMoment
-  next_is x next s t bytes rest m behind knows framed leads = record { pieces = suc m.pieces; is = (x, s, bytes, m.is, behind); knows = knows_then begins.state x.state next.state m.knows knows; framed = framed; leads = leads }
+  next_is x next s t bytes rest m behind knows framed leads number shows = record {
+    pieces = suc m.pieces;
+    is = (x, s, bytes, m.is, behind);
+    knows = knows_then begins.state x.state next.state m.knows knows;
+    framed = framed;
+    leads = leads;
+    number = number;
+    shows = shows;
+  }
 
   module _ (number : ℕ → ℕ) (x next : Both) (s : State) (k : Conn) (e : Exchange) (bytes : Bytes) (behind : Option Remains) (more : ℕ) (m : Moment x s bytes) (run : GotFrom more shelf n behind next ends) (there : StandsBefore number shelf x s n k e) (it : HeadIsGot shelf next s n e bytes behind there.begin there.then there.before there.peer) where
     abbrev t : State
@@ -90,13 +100,21 @@ module _ (name : Bytes) (shelf : KeptMap) (n : ℕ) (begins : Both) (from : Stat
     head_knows : KnowsAsMuch x.state next.state
     head_knows = subst (λ (p : Turn). KnowsAsMuch p next.state) there.state (head_stays shelf n _ next it.came).knows
 
-    behind_head : Moment next t it.rest
-    behind_head = next_is x next s t bytes it.rest m (inl (record { number = number; conn = k; exchange = e; behind = behind; there = there; head = next; it = it; state = refl; left = refl; then = inl refl })) head_knows head_framed (record { more = more; behind = behind; then = run })
+    -- the name is that of the beginning
+    named : there.then.settings.name ≡ name
+    named = there.named ∙ sym (of_frame (λ f. f.settings.name) s m.framed) ∙ sym words.name ∙ own
 
-    behind_end : (last : Both) (after : Option Remains) (less : ℕ) → IsStepOn (going_on (find (is_number n) next.peers)) shelf n (remaining it.rest []) next last after → GotFrom less shelf n after last ends → Moment last t it.rest
-    behind_end last after less step later =
+    at_name : (number1 : ℕ → ℕ) (z : Both) → ShowsSides number1 there.then.settings.name (sides_of z) t → ShowsSides number1 name (sides_of z) t
+    at_name number1 z shows = subst (λ (text : Bytes). ShowsSides number1 text (sides_of z) t) named shows
+
+    behind_head : (number1 : ℕ → ℕ) → ShowsSides number1 there.then.settings.name (sides_of next) t → Moment next t it.rest
+    behind_head number1 shows = next_is x next s t bytes it.rest m (inl (record { number = number; conn = k; exchange = e; behind = behind; there = there; head = next; it = it; state = refl; left = refl; then = inl refl })) head_knows head_framed (record { more = more; behind = behind; then = run }) number1 (at_name number1 next shows)
+
+    behind_end : (number1 : ℕ → ℕ) (last : Both) (after : Option Remains) (less : ℕ) → ShowsSides number1 there.then.settings.name (sides_of last) t → IsStepOn (going_on (find (is_number n) next.peers)) shelf n (remaining it.rest []) next last after → GotFrom less shelf n after last ends → Moment last t it.rest
+    behind_end number1 last after less shows step later =
         next_is x last s t bytes it.rest m (inl (record { number = number; conn = k; exchange = e; behind = behind; there = there; head = next; it = it; state = refl; left = refl; then = inr (after, step) }))
         (knows_then x.state next.state last.state head_knows (step_stays (going_on (find (is_number n) next.peers)) shelf n (remaining it.rest []) next last after step).knows) head_framed (record { more = less; behind = after; then = later })
+        number1 (at_name number1 last shows)
 
     -- memory was refused for no row: this life did not go astray
     next_calm : next.state.is_astray ≡ false
@@ -113,23 +131,17 @@ module _ (name : Bytes) (shelf : KeptMap) (n : ℕ) (begins : Both) (from : Stat
           given = head_given (first_on n (parts there.begin.state)) shelf n (with_head n there.peer it.left there.begin) next it.came next_calm one.bounded;
           refused = (head_stays shelf n (with_head n there.peer it.left there.begin) next it.came).refused next_calm none_before;
           end = one.end;
-          holds = λ goes. behind_head;
-          ends = λ last after less right over step later. behind_end last after less step later;
+          holds = λ number1 shows goes. behind_head number1 shows;
+          ends = λ number1 last after less shows right over step later. behind_end number1 last after less shows step later;
         }
 
-  behind_piece : (number : ℕ → ℕ) (x z next : Both) (s : State) (k : Conn) (a : Answer) (peer : Peer) (e : Exchange) (bytes : Bytes) (here : Remains) (after : Option Remains) (more : ℕ) → Moment x s bytes → IsWithinBody x s n k a peer e → IsAmidBody x z n peer a bytes here
-      → IsStepOn (going_on (find (is_number n) z.peers)) shelf n here z next after → GotFrom more shelf n after next ends → PieceIsOver number name next s k a bytes after → Moment next (body_piece k a bytes s).state (body_piece k a bytes s).rest
-  behind_piece number x z next s k a peer e bytes here after more m within amid step run over =
-      next_is x next s (body_piece k a bytes s).state bytes (body_piece k a bytes s).rest m
-      (inr (record { number = number; conn = k; answer = a; peer = peer; exchange = e; amid = z; here = here; after = after; within = within; is_amid = amid; step = step; over = over; state = refl; left = refl }))
-      (subst (λ (p : Turn). KnowsAsMuch p next.state) amid.state (step_stays (going_on (find (is_number n) z.peers)) shelf n here z next after step).knows) (piece_stays bytes m) (record { more = more; behind = after; then = run })
-    where
-      opens : IsOpen s n k
-      opens = record { there = within.on.may.there; goes_on = within.on.may.goes_on }
-
-      piece_stays : (bytes : Bytes) → Moment x s bytes → Stays false (frame false from) (body_piece k a bytes s).state
-      piece_stays [] m = none_framed (frame false from) k a s m.framed ((on x s [] m).bodies k a opens within.on.answer).going
-      piece_stays (b ∷ bytes) m = piece_framed (frame false from) n b bytes s k a opens within.on.answer m.framed
+  behind_piece : (number : ℕ → ℕ) (x z next : Both) (s : State) (k : Conn) (a : Answer) (peer : Peer) (e : Exchange) (b : ℕ) (bytes : Bytes) (here : Remains) (after : Option Remains) (more : ℕ) → Moment x s (b ∷ bytes) → IsWithinBody x s n k a peer e → IsAmidBody x z n peer a (b ∷ bytes) here
+      → IsStepOn (going_on (find (is_number n) z.peers)) shelf n here z next after → GotFrom more shelf n after next ends → PieceIsOver number name next s k a (b ∷ bytes) after → Moment next (body_piece k a (b ∷ bytes) s).state (body_piece k a (b ∷ bytes) s).rest
+  behind_piece number x z next s k a peer e b bytes here after more m within amid step run over =
+      next_is x next s (body_piece k a (b ∷ bytes) s).state (b ∷ bytes) (body_piece k a (b ∷ bytes) s).rest m
+      (inr (record { number = number; conn = k; answer = a; peer = peer; exchange = e; amid = z; here = here; after = after; first = b; others = bytes; some = refl; within = within; is_amid = amid; step = step; over = over; state = refl; left = refl }))
+      (subst (λ (p : Turn). KnowsAsMuch p next.state) amid.state (step_stays (going_on (find (is_number n) z.peers)) shelf n here z next after step).knows)
+      (piece_framed (frame false from) n b bytes s k a (record { there = within.on.may.there; goes_on = within.on.may.goes_on }) within.on.answer m.framed) (record { more = more; behind = after; then = run }) number over.shows
 
   pub supplies : Supplies name shelf n ends Moment
   supplies = record {

@@ -6,11 +6,12 @@ use Rattle.std.specs.Prelude.{◌≡◌, ◌⊎◌, ◌≤◌, ◌<◌, ℕ, zer
 use Rattle.std.specs.List.{find}
 use Rattle.pp_answers_law.specs.Making.{MayMake}
 use Rattle.pp_cache.specs.Bounds.{IsBounded}
+use Rattle.pp_closings_law.specs.Sides.{ShowsSides}
 use Rattle.pp_law.specs.Lists.{Bytes}
 use Rattle.pp_law.specs.OwnHeads.{is_wrong_head}
 use Rattle.pp_law.specs.Responses.{body_piece, got, head_came}
 use Rattle.pp_law.specs.State.{State, Answer, Conn, Exchange}
-use Rattle.pp_origins.specs.Gots.{Both, GotFrom, HeadCameFor, IsStepOn, Remains, going_on, remaining}
+use Rattle.pp_origins.specs.Gots.{Both, GotFrom, HeadCameFor, IsStepOn, Remains, going_on, remaining, sides_of}
 use Rattle.pp_peers.specs.Peers.{is_number}
 use Rattle.pp_peers.specs.declared.peers.Peer.{Peer}
 use Rattle.pp_reads_law.specs.Bads.{IsDue, IsOpen}
@@ -39,7 +40,7 @@ pub record IsBehindHead (shelf : KeptMap) (n : ℕ) (x : Both) (s : State) (byte
   pub left : rest ≡ it.rest
   pub then : (next ≡ head) ⊎ ((after : Option Remains) × IsStepOn (going_on (find (is_number n) head.peers)) shelf n (remaining it.rest []) head next after)
 
--- behind a piece of a body
+-- behind a piece of a body, which has a byte at least
 pub record IsBehindPiece (name : Bytes) (shelf : KeptMap) (n : ℕ) (x : Both) (s : State) (bytes : Bytes) (next : Both) (t : State) (rest : Bytes) : Type 0 where
   pub number : ℕ → ℕ
   pub conn : Conn
@@ -49,6 +50,9 @@ pub record IsBehindPiece (name : Bytes) (shelf : KeptMap) (n : ℕ) (x : Both) (
   pub amid : Both
   pub here : Remains
   pub after : Option Remains
+  pub first : ℕ
+  pub others : Bytes
+  pub some : bytes ≡ first ∷ others
   pub within : IsWithinBody x s n conn answer peer exchange
   pub is_amid : IsAmidBody x amid n peer answer bytes here
   pub step : IsStepOn (going_on (find (is_number n) amid.peers)) shelf n here amid next after
@@ -104,6 +108,7 @@ pub record RestsOn (shelf : KeptMap) (n : ℕ) (y x : Both) (s : State) (bytes :
   -- once; that a chunk is free for each piece has no source yet
   pub bodies : (k : Conn) (a : Answer) → IsOpen s n k → k.answer ≡ Some a → SuppliesBody x s n k a bytes
 
--- all of one read
+-- all of one read, each moment by what is shown there
 abbrev pub ReadRestsOn : (name : Bytes) (shelf : KeptMap) (n : ℕ) (begins : Both) (from : State) (all : Bytes) (ends : Both) → Type 0
-ReadRestsOn name shelf n begins from all ends = (pieces : ℕ) (x : Both) (s : State) (bytes : Bytes) → IsMoment pieces name shelf n begins from all x s bytes → LeadsTo shelf n x ends → RestsOn shelf n ends x s bytes
+ReadRestsOn name shelf n begins from all ends = (pieces : ℕ) (x : Both) (s : State) (bytes : Bytes) → IsMoment pieces name shelf n begins from all x s bytes → LeadsTo shelf n x ends
+    → (number : ℕ → ℕ) → ShowsSides number name (sides_of x) s → RestsOn shelf n ends x s bytes

@@ -2,7 +2,7 @@
 -- with what stands before the head, where nothing but what precedes it is dropped (RFC 2616, sections 6, 8.1 and 10.1).
 --
 -- Where the premises come from: those of HeadsAreGotAsTheLaws.
-use Rattle.std.specs.Prelude.{◌≡◌, ◌⊎◌, ◌≤◌, ◌<◌, ℕ, [], ◌∷◌, length, Option, Some}
+use Rattle.std.specs.Prelude.{◌≡◌, ◌⊎◌, ◌≤◌, ◌<◌, ◌+◌, ℕ, [], ◌∷◌, length, Option, Some}
 use Rattle.std.specs.List.{find}
 use Rattle.pp_framing.specs.declared.body.BodyRule.{BodyRule}
 use Rattle.pp_head.specs.Response.{Response}
@@ -44,6 +44,9 @@ pub record HeadIsGot (shelf : KeptMap) (next : Both) (s : State) (n : ℕ) (e : 
   pub enough : length rest ≤ less
   pub fewer : length rest < length bytes
   pub law : got (length bytes) n bytes s ≡ got less n rest (head_came before head then)
+  -- with so many pieces the law comes to it, and goes on behind
+  pub pieces : ℕ
+  pub comes : (later : ℕ) → got (pieces + later) n bytes s ≡ got later n rest (head_came before head then)
 
 pub record HeadIsGotThere (number : ℕ → ℕ) (shelf : KeptMap) (x next : Both) (s : State) (n : ℕ) (k : Conn) (e : Exchange) (bytes : Bytes) (behind : Option Remains) : Type 0 where
   pub there : StandsBefore number shelf x s n k e

@@ -1,5 +1,5 @@
 -- The law drops interim heads piece by piece, and comes to the text behind them (RFC 2616, sections 8.2.3 and 10.1).
-use Rattle.std.specs.Prelude.{◌≡◌, ◌⊎◌, ◌≤◌, ℕ, [], ◌∷◌, drop, length}
+use Rattle.std.specs.Prelude.{◌≡◌, ◌⊎◌, ◌≤◌, ◌+◌, ℕ, [], ◌∷◌, drop, length}
 use Rattle.pp_head.specs.Read.{More, Whole}
 use Rattle.pp_head.specs.Response.{Response, response_at}
 use Rattle.pp_law.specs.Connections.{on_conn}
@@ -21,6 +21,9 @@ pub record IsPassedTo (more : ℕ) (s : State) (n : ℕ) (k : Conn) (bytes text 
   pub less : ℕ
   pub law : got more n bytes s ≡ got less n (head_piece_of before text then).rest (head_piece_of before text then).state
   pub enough : (head : Response) → response_at text ≡ Whole head → length (drop head.length text) ≤ less
+  -- with so many pieces it comes there, and goes on behind
+  pub pieces : ℕ
+  pub comes : (later : ℕ) → got (pieces + later) n bytes s ≡ got later n (head_piece_of before text then).rest (head_piece_of before text then).state
 
 -- where a head is whole behind them, or none is one
 abbrev pub InterimsArePassed : Type 0

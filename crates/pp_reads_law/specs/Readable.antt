@@ -7,7 +7,7 @@
 -- over (`AreSettled`). Whose response was begun is as in Breaks of pp_events_law, and that attempts count anew no more as in its Asks. Its client
 -- has room, as the wait wanted the connection read (`is_read` of pp_wants), and what it reads into is as long from the opening on (`HasBuffers`
 -- of pp_desk).
-use Rattle.std.specs.Prelude.{◌≡◌, ◌<◌, ◌≤◌, ℕ, Bool, false, length, slice_get, vec_capacity, List, Some}
+use Rattle.std.specs.Prelude.{◌≡◌, ◌<◌, ◌≤◌, ℕ, Bool, true, false, [], ◌∷◌, length, slice_get, vec_capacity, List, Some}
 use Rattle.pp_cache.specs.Bounds.{IsBounded}
 use Rattle.pp_desk.specs.declared.desk.Desk.{Desk}
 use Rattle.pp_endings_law.specs.Gone.{IsAnswering}
@@ -15,7 +15,7 @@ use Rattle.pp_events_law.specs.Hears.{AreSettled}
 use Rattle.pp_events_law.specs.Ready.{StaysReady}
 use Rattle.pp_events_law.specs.Stands.{AreReadyAt, HasLed, HasLedBehind, StandsAtEvent, come}
 use Rattle.pp_law.specs.After.{event, owing}
-use Rattle.pp_law.specs.Asking.{read_room}
+use Rattle.pp_law.specs.Asking.{is_read, read_room}
 use Rattle.pp_law.specs.Connections.{conn}
 use Rattle.pp_law.specs.Lists.{Bytes}
 use Rattle.pp_law.specs.Replies.{regained}
@@ -31,10 +31,9 @@ use Rattle.pp_seats.specs.declared.seat.Seat.{Seat}
 use Rattle.pp_state.specs.declared.state.State.{State as Turn}
 use Rattle.pp_steps_law.specs.Told.{IsTold}
 use Rattle.pp_turns_law.specs.Turns.{IsFollowing}
-use Rattle.pp_world.specs.Log.{Log}
+use Rattle.pp_world.specs.Log.{AppendsAll, Log}
 use Rattle.pp_world.specs.declared.event.Event.TheVariants.{Readable}
-use Rattle.pp_world.specs.declared.happening.Happening.TheVariants.{CanRead}
-use Rattle.pp_world.specs.declared.happening.Happening.{Happening}
+use Rattle.pp_world.specs.declared.happening.Happening.TheVariants.{CanRead, Got}
 use Rattle.pp_reads_law.specs.Brings.{ReadRestsOn}
 use Rattle.pp_reads_law.specs.Goes.{AllGoOn}
 
@@ -58,9 +57,14 @@ pub record MayRead (k : ℕ) (x : Turning) (s : State) (j : Conn) : Type 0 where
 abbrev pub AreFollowed : Turn → Type 0
 AreFollowed p = (i : ℕ) (seat : Seat) → slice_get p.seats.items i ≡ Some seat → seat.is_closing ≡ false → IsFollowing p.cache seat
 
-pub record MayBring (k : ℕ) (x : Turning) (s : State) : Type 0 where
-  pub rests : (begins next : Both) (bytes : Bytes) → Makes (λ z. z) (both x.moving.desk) begins → HasGot x.shelf k bytes begins next → next.state.is_astray ≡ false → ReadRestsOn x.moving.desk.state.name.items x.shelf k begins s bytes next
-  pub followed : (begins next : Both) (bytes : Bytes) → Makes (λ z. z) (both x.moving.desk) begins → HasGot x.shelf k bytes begins next → AreFollowed next.state
+-- these came, as the log has it, and there was room for them
+pub record IsBrought (k : ℕ) (x y : Turning) (s : State) (bytes : Bytes) : Type 0 where
+  pub told : AppendsAll x.log y.log (λ l. Got k bytes ∷ [])
+  pub fits : is_read (read_room s k) bytes ≡ true
+
+pub record MayBring (k : ℕ) (x y : Turning) (s : State) : Type 0 where
+  pub rests : (begins next : Both) (bytes : Bytes) → IsBrought k x y s bytes → Makes (λ z. z) (both x.moving.desk) begins → HasGot x.shelf k bytes begins next → next.state.is_astray ≡ false → ReadRestsOn x.moving.desk.state.name.items x.shelf k begins s bytes next
+  pub followed : (begins next : Both) (bytes : Bytes) → IsBrought k x y s bytes → Makes (λ z. z) (both x.moving.desk) begins → HasGot x.shelf k bytes begins next → next.state.is_astray ≡ false → AreFollowed next.state
 
 -- ---- where it leads
 
@@ -68,23 +72,27 @@ pub record MayBring (k : ℕ) (x : Turning) (s : State) : Type 0 where
 abbrev pub AreTold : (ℕ → ℕ) → Moving → State → Type 0
 AreTold number x s = (i : ℕ) (seat : Seat) (id : ObjectId) (plain : Bool) → slice_get x.desk.state.seats.items i ≡ Some seat → seat.is_closing ≡ false → seat.brought ≡ Joins id plain → IsTold number x.desk.state.cache s.next_instance id
 
+-- of a read that brought bytes
+abbrev pub AreToldBehind : ℕ → (ℕ → ℕ) → Log → Moving → State → Type 0
+AreToldBehind k number log x s = (bytes : Bytes) → log ≡ Got k bytes ∷ [] → AreTold number x s
+
 -- by whatever it adds. A row that came with it has a number, so that the numbers may be others. Each client that goes on can be decided
--- behind it, where what its exchange joined is told: of a row that a head brought no clause says so yet
-pub record HasLedTold (x y : Turning) (s : State) : Type 0 where
+-- behind it; behind bytes, where what its exchange joined is told: of a row that a head brought no clause says so yet
+pub record HasLedTold (k : ℕ) (x y : Turning) (s : State) : Type 0 where
   pub number : ℕ → ℕ
   pub led : HasLed number x y s
-  pub ready : AreTold number y.moving led.then → StaysReady number x y led.then
+  pub ready : AreToldBehind k number led.log y.moving led.then → StaysReady number x y led.then
 
 -- the same from the wait on, which added the event itself before
-pub record HasLedToldBehind (h : Happening) (x y : Turning) (s : State) : Type 0 where
+pub record HasLedToldBehind (k : ℕ) (x y : Turning) (s : State) : Type 0 where
   pub number : ℕ → ℕ
-  pub led : HasLedBehind number h x y s
-  pub ready : AreTold number y.moving led.then → StaysReady number x y led.then
+  pub led : HasLedBehind number (CanRead k) x y s
+  pub ready : AreToldBehind k number led.log y.moving led.then → StaysReady number x y led.then
 
 -- from where the read is owed, where this life does not go astray in it
 abbrev pub ReadingsLead : Type 0
-ReadingsLead = (terms : List Term) (log : Log) (number : ℕ → ℕ) (k : ℕ) (x y : Turning) (s : State) (j : Conn) → Obeys terms s log → StandsAtEvent number Handling (ReadOf k) x.moving s → AreReadyAt number x.moving s → MayRead k x s j → MayBring k x s
-    → IsBounded y.moving.desk.state.cache → y.moving.desk.state.is_astray ≡ false → ReceivesOn k x y → HasLedTold x y s
+ReadingsLead = (terms : List Term) (log : Log) (number : ℕ → ℕ) (k : ℕ) (x y : Turning) (s : State) (j : Conn) → Obeys terms s log → StandsAtEvent number Handling (ReadOf k) x.moving s → AreReadyAt number x.moving s → MayRead k x s j → MayBring k x y s
+    → IsBounded y.moving.desk.state.cache → y.moving.desk.state.is_astray ≡ false → ReceivesOn k x y → HasLedTold k x y s
 
 -- ---- from the wait on
 
@@ -103,4 +111,4 @@ pub record MayBeRead (k : ℕ) (x : Turning) (s : State) (j : Conn) : Type 0 whe
 -- what bytes rest on is that of the turn as it stands once it is woken
 abbrev pub OriginReadsLead : Type 0
 OriginReadsLead = (terms : List Term) (log : Log) (number : ℕ → ℕ) (k : ℕ) (x y : Turning) (s : State) (j : Conn) → Obeys terms s log → StandsAtEvent number Awaiting Free x.moving s → AreReadyAt number x.moving s → MayBeRead k x s j
-    → ((woken : Desk) → Wakes k x.moving.desk woken → MayBring k (at_desk woken x) (event (owing (ReadOf k) k s))) → IsBounded y.moving.desk.state.cache → y.moving.desk.state.is_astray ≡ false → Handles (Readable k) (come (Readable k) x) y → HasLedToldBehind (CanRead k) x y s
+    → ((woken : Desk) → Wakes k x.moving.desk woken → MayBring k (at_desk woken x) y (event (owing (ReadOf k) k s))) → IsBounded y.moving.desk.state.cache → y.moving.desk.state.is_astray ≡ false → Handles (Readable k) (come (Readable k) x) y → HasLedToldBehind k x y s

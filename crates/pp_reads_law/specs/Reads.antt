@@ -48,9 +48,9 @@ pub record SuppliesHead (shelf : KeptMap) (n : ℕ) (y : Both) (I : Both → Sta
   pub given : IsGivenHead (first_on n (parts begin.state)) shelf n (with_head n peer it.left begin) next it.came
   pub refused : next.state.refused ≡ []
   pub end : is_wrong_head e it.head ≡ false → MayEnd then before e it.head it.rule
-  pub holds : (is_wrong_head e it.head ≡ true) ⊎ ((body_of it.rule []).outcome ≡ Going) → I next (head_came before it.head then) it.rest
+  pub holds : (number : ℕ → ℕ) → ShowsSides number then.settings.name (sides_of next) (head_came before it.head then) → (is_wrong_head e it.head ≡ true) ⊎ ((body_of it.rule []).outcome ≡ Going) → I next (head_came before it.head then) it.rest
   -- and of an empty body, behind the step that ends it
-  pub ends : (last : Both) (after : Option Remains) (more : ℕ) → is_wrong_head e it.head ≡ false → (body_of it.rule []).outcome ≡ Done [] → IsStepOn (going_on (find (is_number n) next.peers)) shelf n (remaining it.rest []) next last after → GotFrom more shelf n after last y → I last (head_came before it.head then) it.rest
+  pub ends : (number : ℕ → ℕ) (last : Both) (after : Option Remains) (more : ℕ) → ShowsSides number then.settings.name (sides_of last) (head_came before it.head then) → is_wrong_head e it.head ≡ false → (body_of it.rule []).outcome ≡ Done [] → IsStepOn (going_on (find (is_number n) next.peers)) shelf n (remaining it.rest []) next last after → GotFrom more shelf n after last y → I last (head_came before it.head then) it.rest
 
 -- a body goes on: its exchange is the first of the line, and its data may go where they are bound
 pub record SuppliesBody (x : Both) (s : State) (n : ℕ) (k : Conn) (a : Answer) (bytes : Bytes) : Type 0 where
@@ -74,8 +74,8 @@ pub record Supplies (name : Bytes) (shelf : KeptMap) (n : ℕ) (y : Both) (I : B
       → SuppliesHead shelf n y I next s e bytes behind there.begin there.then there.before there.peer it
   -- as Pieces and Data have it; and behind the piece
   pub bodies : (x : Both) (s : State) (k : Conn) (a : Answer) (bytes : Bytes) → I x s bytes → IsOpen s n k → k.answer ≡ Some a → SuppliesBody x s n k a bytes
-  pub behind : (number : ℕ → ℕ) (x z next : Both) (s : State) (k : Conn) (a : Answer) (peer : Peer) (e : Exchange) (bytes : Bytes) (here : Remains) (after : Option Remains) (more : ℕ) → I x s bytes → IsWithinBody x s n k a peer e → IsAmidBody x z n peer a bytes here
-      → IsStepOn (going_on (find (is_number n) z.peers)) shelf n here z next after → GotFrom more shelf n after next y → PieceIsOver number name next s k a bytes after → I next (body_piece k a bytes s).state (body_piece k a bytes s).rest
+  pub behind : (number : ℕ → ℕ) (x z next : Both) (s : State) (k : Conn) (a : Answer) (peer : Peer) (e : Exchange) (b : ℕ) (bytes : Bytes) (here : Remains) (after : Option Remains) (more : ℕ) → I x s (b ∷ bytes) → IsWithinBody x s n k a peer e → IsAmidBody x z n peer a (b ∷ bytes) here
+      → IsStepOn (going_on (find (is_number n) z.peers)) shelf n here z next after → GotFrom more shelf n after next y → PieceIsOver number name next s k a (b ∷ bytes) after → I next (body_piece k a (b ∷ bytes) s).state (body_piece k a (b ∷ bytes) s).rest
 
 -- ---- what it brings
 

@@ -1,4 +1,5 @@
 pub mod BackedLemmas
+pub mod CountLemmas
 pub mod CoverLemmas
 pub mod EachLemmas
 pub mod EntryLemmas

@@ -7,7 +7,7 @@ ghost use Rattle.pp_gate.specs.Runs.{EachMoment};
 ghost use Rattle.pp_store.specs.Changes.{no_entries};
 ghost use Rattle.pp_gate.specs.Files.{Sent};
 ghost use Rattle.pp_store.specs.Held.{Covers, Holds};
-ghost use Rattle.pp_recover.specs.Faults.{OpenCause};
+ghost use Rattle.pp_recover.specs.Faults.{CountsFailures, OpenCause};
 ghost use Rattle.pp_recover.specs.Image.{HasFewNames};
 ghost use Rattle.pp_recover.specs.Looks.{Extends};
 ghost use Rattle.pp_recover.specs.Opening.{AllSent, IsFree, IsFresh, Opens, OpensBacked, SameEntries, TendsNames, TendsOne};
@@ -50,6 +50,7 @@ pub fn open<D: Disk>(alloc: Global, disk: &mut D) -> Result<Store, RecoverFault>
     ensures holds { IfOk result (λ store. Extends (D.log disk.old) (D.log disk.new) (λ before hs. (files : Files) → IsFresh files before → (sent : Sent) → AllSent sent files → Holds sent store (before ++ hs))) }
     ensures covers { IfOk result (λ store. Extends (D.log disk.old) (D.log disk.new) (λ before hs. (files : Files) → IsFresh files before → HasFewNames files → Covers store (before ++ hs))) }
     ensures faults { D.faults disk.old ≤ D.faults disk.new }
+    ensures counted { Extends (D.log disk.old) (D.log disk.new) (CountsFailures (D.faults disk.old) (D.faults disk.new)) }
     ensures cause { OpenCause (D.log disk.new) (D.faults disk.old) (D.faults disk.new) result }
     ensures top { D.top disk.new ≡ D.top disk.old }
 {
@@ -71,6 +72,7 @@ fn tend_all<D: Disk>(
     requires fresh { Told (D.log disk.old) (λ l. (files : Files) × IsFresh files l) }
     ensures tends { Extends (D.log disk.old) (D.log disk.new) (λ before hs. (files : Files) → IsFresh files before → TendsNames files names.now (is_ok result) store.new hs) }
     ensures faults { D.faults disk.old ≤ D.faults disk.new }
+    ensures counted { Extends (D.log disk.old) (D.log disk.new) (CountsFailures (D.faults disk.old) (D.faults disk.new)) }
     ensures top { D.top disk.new ≡ D.top disk.old }
 {
     let mut room = Room::new();
@@ -93,6 +95,7 @@ fn tend<D: Disk>(
     ensures tends { Extends (D.log disk.old) (D.log disk.new) (TendsOne name.now store.old store.new (is_ok result)) }
     ensures others { (other : Bytes) → (name.now ≡ other → ⊥) → IsFree other store.old → IsFree other store.new }
     ensures faults { D.faults disk.old ≤ D.faults disk.new }
+    ensures counted { Extends (D.log disk.old) (D.log disk.new) (CountsFailures (D.faults disk.old) (D.faults disk.new)) }
     ensures top { D.top disk.new ≡ D.top disk.old }
 {
     match examine(

@@ -33,7 +33,7 @@ use Rattle.pp_rounds_law.proofs.Astray.{loops_stay}
 use Rattle.pp_rounds_law.proofs.Loops.{loops_lead}
 use Rattle.pp_rounds_law.specs.Astray.{IsAstray}
 use Rattle.pp_rounds_law.specs.Loops.{MayGoRound}
-use Rattle.pp_rounds_law.specs.Serves.{EndSupplies, HasServed, ServesLead, StaysSet}
+use Rattle.pp_rounds_law.specs.Serves.{EndSupplies, HasServedWith, ServesLead, StaysSet}
 use Rattle.pp_rounds_law.specs.Coming.{IsBrief}
 
 module _ (terms : List Term) (most : ℕ) (before : Log) (shelf : KeptMap) (I : Turn → State → Type 0) (x y : Moving) (log : Log) (s : State) (supplies : EndSupplies terms most shelf I) (may : MayGoRound terms before shelf I x log s) (brief : IsBrief most (before ++ log)) (serves : Serves shelf x log y) (bounded : IsBounded y.desk.state.cache)
@@ -83,8 +83,15 @@ module _ (terms : List Term) (most : ℕ) (before : Log) (shelf : KeptMap) (I : 
     going = ap (λ (f : Frame). f.is_stopped) (ending-frame false gone.then) ∙ amid.going;
   }
 
-  served : HasServed terms before shelf y log s
-  served = record { then = gone.then; comes = gone.comes; number = gone.stands.number; ended = ended; set = set }
+  served : HasServedWith terms before shelf I y log s
+  served = record {
+    served = record { then = gone.then; comes = gone.comes; number = gone.stands.number; ended = ended; set = set };
+    last = mid.desk;
+    stands = to_decide;
+    at = gone.phase;
+    holds = gone.holds;
+    begins = serves.begins;
+  }
 
 -- ---- whether this life went astray is as it was before replies begin
 
@@ -97,7 +104,7 @@ serves_stay shelf x y log serves is = begun_as_before shelf x y log serves ∙ l
 
 -- whatever holds from one step to the next
 pub serves_lead : (terms : List Term) (most : ℕ) (before : Log) (shelf : KeptMap) (I : Turn → State → Type 0) (x y : Moving) (log : Log) (s : State) → RoundSupplies terms most shelf I → EndSupplies terms most shelf I → MayGoRound terms before shelf I x log s → IsBrief most (before ++ log) → Serves shelf x log y → IsBounded y.desk.state.cache
-    → y.desk.state.is_astray ≡ false → HasServed terms before shelf y log s
+    → y.desk.state.is_astray ≡ false → HasServedWith terms before shelf I y log s
 serves_lead terms most before shelf I x y log s supplies ends_too may brief served_so bounded well =
     served terms most before shelf I x y log s ends_too may brief served_so bounded
     (loops_lead terms most before shelf I 65536 x served_so.between log s supplies may brief served_so.rounds (sym (begun_as_before shelf x y log served_so) ∙ well))

@@ -9,12 +9,12 @@ use Rattle.pp_desk.specs.Closings.{peer_numbers}
 use Rattle.pp_desk.specs.declared.desk.Desk.{Desk}
 use Rattle.pp_law.specs.Connections.{limits}
 use Rattle.pp_law.specs.Phases.{ending}
-use Rattle.pp_law.specs.State.{State, Term}
+use Rattle.pp_law.specs.State.{State, Term, DecidingAgain}
 use Rattle.pp_obeys.specs.Obeys.{Obeys}
 use Rattle.pp_places_law.specs.Around.{AreAskable}
 use Rattle.pp_places_law.specs.Closings.{AreOpen}
 use Rattle.pp_proxy.specs.Moving.{Moving}
-use Rattle.pp_proxy.specs.Rounds.{Serves}
+use Rattle.pp_proxy.specs.Rounds.{BeginsAll, Serves}
 use Rattle.pp_rounds_law.specs.Coming.{ComesTo, IsBrief}
 use Rattle.pp_rounds_law.specs.Supplies.{RoundSupplies}
 use Rattle.pp_rounds_law.specs.Decisions.{Passes}
@@ -52,7 +52,16 @@ pub record HasServed (terms : List Term) (before : Log) (shelf : KeptMap) (y : M
   pub ended : HasEnded number shelf y.desk then
   pub set : StaysSet y (ending then)
 
+-- and where its last round ended, this holds still, and replies begin from there
+pub record HasServedWith (terms : List Term) (before : Log) (shelf : KeptMap) (I : Turn → State → Type 0) (y : Moving) (log : Log) (s : State) : Type 0 where
+  pub served : HasServed terms before shelf y log s
+  pub last : Desk
+  pub stands : StandsToDecide served.number last.peers shelf last.state served.then
+  pub at : served.then.phase ≡ DecidingAgain
+  pub holds : I last.state served.then
+  pub begins : BeginsAll last y.desk
+
 -- the cache is bounded, as each is; this life did not go astray, as `AllLead` of Decisions has it, and replies that begin leave that as it was
 abbrev pub ServesLead : Type 0
 ServesLead = (terms : List Term) (most : ℕ) (before : Log) (shelf : KeptMap) (test : Turn → State → Bool) (x y : Moving) (log : Log) (s : State) → RoundSupplies terms most shelf (Passes test) → EndSupplies terms most shelf (Passes test) → MayGoRound terms before shelf (Passes test) x log s → IsBrief most (before ++ log) → Serves shelf x log y
-    → IsBounded y.desk.state.cache → y.desk.state.is_astray ≡ false → HasServed terms before shelf y log s
+    → IsBounded y.desk.state.cache → y.desk.state.is_astray ≡ false → HasServedWith terms before shelf (Passes test) y log s

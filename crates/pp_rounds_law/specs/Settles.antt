@@ -25,7 +25,7 @@ use Rattle.pp_state.specs.Numbers.{places}
 use Rattle.pp_state.specs.declared.state.State.{State as Turn}
 use Rattle.pp_store.specs.Kept.{KeptMap}
 use Rattle.pp_world.specs.Log.{Log}
-use Rattle.pp_rounds_law.specs.Serves.{EndSupplies, HasServed}
+use Rattle.pp_rounds_law.specs.Serves.{EndSupplies, HasServedWith}
 
 -- ---- before Stop
 
@@ -40,7 +40,7 @@ pub record MaySettle (terms : List Term) (before : Log) (shelf : KeptMap) (I : T
 -- the cache is bounded, as each is; this life did not go astray: the turn's end says so
 abbrev pub SettlesLead : Type 0
 SettlesLead = (terms : List Term) (most : ℕ) (before : Log) (shelf : KeptMap) (test : Turn → State → Bool) (x y : Moving) (log : Log) (s : State) → RoundSupplies terms most shelf (Passes test) → EndSupplies terms most shelf (Passes test) → MaySettle terms before shelf (Passes test) x log s → IsBrief most (before ++ log) → Settles shelf x log y
-    → IsBounded y.desk.state.cache → y.desk.state.is_astray ≡ false → HasServed terms before shelf y log s
+    → IsBounded y.desk.state.cache → y.desk.state.is_astray ≡ false → HasServedWith terms before shelf (Passes test) y log s
 
 -- ---- at Stop
 

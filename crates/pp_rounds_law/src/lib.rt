@@ -20,6 +20,7 @@
 //! wait, and replies that begin show what the law has at its end; `Serves` joins both. `Stops`: at Stop all clients and then all origins leave
 //! the log's connections, one behind the other, and the log may end. The program neither drops what nobody sees nor gives up asks then, and the
 //! law does both: of it all who is there alone is shown. `Settles`: behind the disk a turn decides, and then serves so, or stops.
+//! What holds from step to step holds where the last round ended, and replies begin from there (HasServedWith of `Serves`).
 //!
 //! Decisions, each step of a round, rounds and all behind them, and a stop lead so where this life did not go astray by their end: it does where
 //! one is left behind the 65,536 that there may be in one go. What went astray stays so (`Astray`).

@@ -6,6 +6,7 @@ use Rattle.pp_conf.specs.declared.conf.Conf.{Conf}
 use Rattle.pp_proxy.specs.Awaiting.{Standing, standing}
 use Rattle.pp_proxy.specs.Opening.{IsOpened}
 use Rattle.pp_proxy.specs.declared.proxy.Proxy.{Proxy}
+use Rattle.pp_recover.specs.Faults.{CountsFailures}
 use Rattle.pp_recover.specs.Looks.{Extends}
 use Rattle.pp_recover.specs.Opening.{IsFresh}
 use Rattle.pp_shelf.specs.Opening.{OpensAs, Recovers}
@@ -36,10 +37,11 @@ pub record GoesBy (x y : Outside) : Type 0 where
 
 -- ---- its steps
 
--- the folder is opened, and this is what is kept in it
+-- the folder is opened, and this is what is kept in it; each failure meanwhile was counted
 pub record OpensFolder (root : List ℕ) (shelf : KeptMap) (x y : Outside) : Type 0 where
   pub opens : OpensAs root (Ok shelf) x.log y.log
   pub recovers : Extends x.log y.log (λ before hs. (files : Files) → IsFresh files before → Recovers root (Ok shelf) files before hs)
+  pub counted : Extends x.log y.log (CountsFailures x.faults y.faults)
   pub by : GoesBy x y
 
 pub record ListensOn (port : ℕ) (x y : Outside) : Type 0 where

@@ -1,5 +1,5 @@
 -- What the log gains where a folder is opened.
-use Rattle.std.proofs.Common.{◌≡◌, refl, ◌⊎◌, inl, inr, Bool, true, ◌&&◌, List, [], ◌∷◌, ◌++◌, ℕ, Option, Some, Result, Ok, Err, sym, ◌∙◌, ap, subst, append_assoc}
+use Rattle.std.proofs.Common.{◌≡◌, ◌≤◌, refl, ◌⊎◌, inl, inr, Bool, true, ◌&&◌, List, [], ◌∷◌, ◌++◌, ℕ, Option, Some, Result, Ok, Err, sym, ◌∙◌, ap, subst, append_assoc}
 use Rattle.std.specs.List.{list_all}
 use Rattle.std.proofs.lemmas.List.Sums.{fold-append}
 use Rattle.std.proofs.lemmas.List.Folds.{list_all-append}
@@ -12,7 +12,9 @@ use Rattle.pp_shelf.specs.Steady.{IsOnDisk, is_on_disk}
 use Rattle.pp_gate.specs.Files.{Sent}
 use Rattle.pp_recover.specs.declared.faults.RecoverFault.{RecoverFault}
 use Rattle.pp_recover.specs.declared.faults.RecoverFault.TheVariants.{DiskFault, OutOfMemory}
+use Rattle.pp_recover.proofs.CountLemmas.{counts_then, none_more}
 use Rattle.pp_recover.specs.Closing.{Tends}
+use Rattle.pp_recover.specs.Faults.{CountsFailures}
 use Rattle.pp_recover.specs.Looks.{Extends}
 use Rattle.pp_recover.specs.Opening.{AllSent, IsFresh, Opens, Tended, TendsEach, TendsFirst}
 use Rattle.pp_store.specs.Held.{Holds}
@@ -124,6 +126,13 @@ recovers_behind folder result call opened = record {
         λ files fresh. (w.1, refl, subst (λ (b : Log). Opens result files b w.1) earlier.2 (w.4 files (subst (IsFresh files) (sym earlier.2) (fresh_rooted files earlier.0 folder fresh)))),
       );
 }
+
+-- where each failure is counted
+pub counts_behind : {old mid new : Option Log} (folder : Bytes) (before between now : ℕ) → Appends old mid (λ l. Rooted folder) → before ≤ between → Extends mid new (CountsFailures between now) → Extends old new (CountsFailures before now)
+counts_behind {old} {mid} {new} folder before between now call more opened = counts_then old mid new before between now rooted opened
+  where
+    rooted : Extends old mid (CountsFailures before between)
+    rooted = record { was = λ l is. let w = call.was l is in (w.0, Rooted folder ∷ [], w.1, w.2, none_more before 0 between refl more) }
 
 -- ---- a life that has begun
 

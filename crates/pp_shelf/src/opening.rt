@@ -3,7 +3,7 @@ ghost use Rattle.std.specs.Prelude.{◌≡◌, ◌≤◌, IfOk};
 ghost use Rattle.pp_world.specs.Files.{Files};
 ghost use Rattle.pp_world.specs.Log.{Told};
 ghost use Rattle.pp_gate.specs.Files.{Sent};
-ghost use Rattle.pp_recover.specs.Faults.{OpenCause};
+ghost use Rattle.pp_recover.specs.Faults.{CountsFailures, OpenCause};
 ghost use Rattle.pp_recover.specs.Looks.{Extends};
 ghost use Rattle.pp_recover.specs.Opening.{AllSent, IsFresh};
 ghost use Rattle.pp_store.specs.Held.{Holds};
@@ -25,6 +25,7 @@ impl Shelf {
         ensures recovers { Extends (D.log disk.old) (D.log disk.new) (λ before hs. (files : Files) → IsFresh files before → Recovers folder.now result files before hs) }
         ensures holds { IfOk result (λ shelf. Told (D.log disk.new) (Holds sent shelf)) }
         ensures faults { D.faults disk.old ≤ D.faults disk.new }
+        ensures counted { Extends (D.log disk.old) (D.log disk.new) (CountsFailures (D.faults disk.old) (D.faults disk.new)) }
         ensures cause { OpenCause (D.log disk.new) (D.faults disk.old) (D.faults disk.new) result }
         ensures top { D.top disk.new ≡ D.top disk.old }
     {

@@ -24,7 +24,8 @@ front_of zero xs within = refl
 front_of (suc n) [] within = absurd (omega (arith, within))
 front_of (suc n) (x ∷ xs) within = ap suc (front_of n xs (omega (arith, within)))
 
-pub front_room : (own all least len : ℕ) (bytes buffer : List ℕ) → len ≡ length (take least bytes) → least ≡ min own all → all ≡ length buffer → bytes ≡ buffer → len ≡ min own (length buffer)
-front_room own all least len bytes buffer kept is same read =
-    let within : least ≤ length bytes = grind (arith, is, same, ap length read) in
-    kept ∙ front_of least bytes within ∙ is ∙ ap (min own) same
+pub front_long : (own all least : ℕ) (bytes buffer : List ℕ) → least ≡ min own all → all ≡ length buffer → length bytes ≡ length buffer → length (take least bytes) ≡ least
+front_long own all least bytes buffer is same long = front_of least bytes (grind (arith, is, same, long))
+
+pub front_room : (own all least : ℕ) (bytes buffer : List ℕ) → least ≡ min own all → all ≡ length buffer → length bytes ≡ length buffer → length (take least bytes) ≡ min own (length buffer)
+front_room own all least bytes buffer is same long = front_long own all least bytes buffer is same long ∙ is ∙ ap (min own) same

@@ -1,6 +1,7 @@
 -- The next byte of a client is on the disk alone: its chunk is read back before a write, or its entry is gone (ours).
 use Rattle.std.specs.Prelude.{◌≡◌, ℕ, ◌≤◌, ◌+◌, ◌*◌, ◌/◌, cond, count_by, nat_lt, IfSome, List, [], ◌∷◌, ◌++◌, is_some, slice_get, take, Option, Some, None, Result, Ok, Err}
 use Rattle.std.specs.Option.{option_and_then}
+use Rattle.pp_cache.specs.Bounds.{IsBounded}
 use Rattle.pp_cache.specs.OnDisk.{kept_to}
 use Rattle.pp_desk.specs.Closings.{KeepsDesk, sides}
 use Rattle.pp_desk.specs.declared.desk.Desk.{Desk}
@@ -107,3 +108,5 @@ pub record LoadsAndSays (i : ℕ) (links : List Link) (shelf : KeptMap) (x : Des
   pub says : Says i loaded.state.awake.items links (sides loaded) (sides y) between new
   pub rest : KeepsDesk loaded (record y { room = loaded.room })
   pub counted : count ≤ now
+  -- as each cache is
+  pub bounded : IsBounded loaded.state.cache

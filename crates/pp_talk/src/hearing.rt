@@ -1,15 +1,17 @@
 // Step 1: what a client sends and is said (RFC 2616, sections 5 and 6).
-ghost use Rattle.std.specs.Prelude.{◌≡◌, ◌≤◌, IfOk, IfSome, length, slice_get};
+ghost use Rattle.std.specs.Prelude.{◌≡◌, ◌≤◌, ◌&&◌, is_some, nat_lt, take, IfOk, IfSome, length, slice_get};
 ghost use Rattle.std.specs.Option.{option_and_then};
 ghost use Rattle.pp_client.specs.Replies.{left_next};
 ghost use Rattle.pp_client.specs.Requests.{room_of};
-ghost use Rattle.pp_links.specs.Links.{IsLinked};
+ghost use Rattle.pp_links.specs.Links.{IsLinked, has_link};
 ghost use Rattle.pp_links.specs.Quiet.{GrowsQuietly};
+ghost use Rattle.pp_desk.specs.Calls.{read_log};
 ghost use Rattle.pp_desk.specs.Closings.{KeepsDesk, sides};
 ghost use Rattle.pp_talk.specs.Talking.{Hears, IsFoundAt, IsReadAt, IsSaidTo, IsSaidWithin, IsWrittenAt, LooksAtWhere, Says, astray_behind, brings, heard_by, offered, said_as, told_at, used_chunks};
 ghost use Rattle.pp_seats.specs.Said.{used_by};
 ghost use Rattle.pp_seats.specs.Seats.{told_by};
 ghost use Rattle.pp_state.specs.Ends.{changed_at, numbers_of, parts, AreSeated, KeepsRest};
+ghost use Rattle.pp_world.specs.Log.{AppendsAll};
 ghost use Rattle.pp_world.specs.Wire.{IsWithin};
 
 use pp_cache::Cache;
@@ -29,6 +31,7 @@ pub fn hear<W: Wire>(desk: &mut Desk, links: &Links, world: &mut W, i: usize)
     ensures is { AreSeated desk.old.state → Hears (length desk.old.buffer.items) i desk.old.state.awake.items links.now (sides desk.old) (sides desk.new) (W.log world.old) (W.log world.new) }
     ensures numbers { numbers_of desk.new.state.seats.items ≡ numbers_of desk.old.state.seats.items }
     ensures rest { KeepsDesk desk.old (record desk.new { buffer = desk.old.buffer }) }
+    ensures long { length desk.new.buffer.items ≡ length desk.old.buffer.items }
     ensures top { W.top world.new ≡ W.top world.old }
     ensures faults { W.faults world.old ≤ W.faults world.new }
 {
@@ -44,16 +47,39 @@ fn take_in<W: Wire>(desk: &mut Desk, links: &Links, world: &mut W, i: usize)
     ensures is { IsReadAt (slice_get desk.old.state.seats.items i) (length desk.old.buffer.items) i links.now (sides desk.old) (sides desk.new) (W.log world.old) (W.log world.new) }
     ensures numbers { numbers_of desk.new.state.seats.items ≡ numbers_of desk.old.state.seats.items }
     ensures rest { record desk.new { state = record desk.new.state { seats = desk.old.state.seats; is_astray = desk.old.state.is_astray }; buffer = desk.old.buffer } ≡ desk.old }
+    ensures long { length desk.new.buffer.items ≡ length desk.old.buffer.items }
     ensures top { W.top world.new ≡ W.top world.old }
     ensures faults { W.faults world.old ≤ W.faults world.new }
 {
     let Some(seat) = desk.state.seats.get(i) else {
         return;
     };
+    let id = seat.id();
     let room = seat.client.room().min(desk.buffer.len());
-    let front = &mut desk.buffer[..room];
-    let found = links.read(world, seat.id(), front);
-    take_found_at(&mut desk.state, i, &found, front);
+    let found = read_front(links, world, id, &mut desk.buffer, room);
+    take_found_at(&mut desk.state, i, &found, &desk.buffer[..room]);
+}
+
+/// Reads into the front of the buffer, of which so much is lent.
+fn read_front<W: Wire>(
+    links: &Links,
+    world: &mut W,
+    id: u64,
+    buffer: &mut [u8],
+    room: usize,
+) -> Option<Result<Got, WireFault>>
+    requires linked { IsLinked (W.log world.old) (W.top world.old) links.now }
+    requires there { room ≤ length buffer.old }
+    ensures linked { IsLinked (W.log world.new) (W.top world.new) links.now }
+    ensures quiet { GrowsQuietly (W.log world.old) (W.log world.new) }
+    ensures called { is_some result ≡ (has_link id links.now && nat_lt 0 room) }
+    ensures told { AppendsAll (W.log world.old) (W.log world.new) (read_log id result (take room buffer.new)) }
+    ensures within { IfSome result (λ r. IfOk r (IsWithin room)) }
+    ensures top { W.top world.new ≡ W.top world.old }
+    ensures faults { W.faults world.old ≤ W.faults world.new }
+{
+    let front = &mut buffer[..room];
+    links.read(world, id, front)
 }
 
 /// Offers the client at this place what is in memory for it; and replies that are over end.

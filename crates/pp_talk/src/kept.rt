@@ -48,6 +48,7 @@ pub fn load_and_say<W: World>(
     ensures faults { W.faults world.old ≤ W.faults world.new }
 {
     load_next(desk, links, shelf, world, i);
+    desk.state.cache.bounds();
     say(desk, links, world, i);
 }
 

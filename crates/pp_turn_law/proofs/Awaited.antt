@@ -22,7 +22,7 @@ use Rattle.pp_turn_law.proofs.Kept.{some_log}
 use Rattle.pp_turn_law.proofs.Waited.{turns_wait}
 
 -- a wait opens nothing and closes nothing
-dialled_then : (log : Log) (w : Wants) (event : Event) → IsOnDialled event log → IsOnDialled event (log ++ Waits w ∷ [])
+pub dialled_then : (log : Log) (w : Wants) (event : Event) → IsOnDialled event log → IsOnDialled event (log ++ Waits w ∷ [])
 dialled_then log w Stop on = on
 dialled_then log w (Tick seconds) on = on
 dialled_then log w (Accepted c) on = on
@@ -31,7 +31,7 @@ dialled_then log w (Writable id) on = on
 dialled_then log w (Reached k) on = subst (λ o. IsTrue (is_origin o)) (sym (side_of-push k log (Waits w))) on
 dialled_then log w (Broken k) on = subst (λ o. IsTrue (is_origin o)) (sym (side_of-push k log (Waits w))) on
 
-still_open : (log : Log) (w : Wants) (links : List Link) → AreOpen links log → AreOpen links (log ++ Waits w ∷ [])
+pub still_open : (log : Log) (w : Wants) (links : List Link) → AreOpen links log → AreOpen links (log ++ Waits w ∷ [])
 still_open log w links all k d within = side_of-push _ log (Waits w) ∙ all k d within
 
 module _ (life : Life) (budget : ℕ) (log : Log) (x : Standing) (w : Wants) (clients : ℕ) (e f : Desk) (event : Event) (all : Log) (faults : ℕ) (s : State) (st : StandsAtWait life budget log x s) (awaits : Awaits x.read w clients x.turning.moving.desk e) (rests : Rests w clients e f) (beside : StandsBeside x f) (comes : Comes w event x all) where

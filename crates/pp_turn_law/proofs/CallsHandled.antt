@@ -8,6 +8,8 @@ use Rattle.pp_comes_law.proofs.OriginWrites.{origin_writes_come, wanted}
 use Rattle.pp_comes_law.proofs.WokenOnes.{written_ones_wake}
 use Rattle.pp_comes_law.specs.Awaited.{IsHandledBehind}
 use Rattle.pp_comes_law.specs.ClientWrites.{CanBeWritten, IsWokenAs}
+use Rattle.pp_given_law.proofs.CountedReads.{as_heard}
+use Rattle.pp_given_law.proofs.CountedWrites.{as_written}
 use Rattle.pp_joints_law.proofs.Carries.{asked_asks, asked_silent, client_reads_carry, client_writes_carry, heard_hears, heard_silent, origin_writes_carry, written_now, written_silent}
 use Rattle.pp_joints_law.proofs.ClearedAll.{BringNone, brings_none}
 use Rattle.pp_joints_law.proofs.LawBehind.{never_fails}
@@ -16,8 +18,10 @@ use Rattle.pp_law.specs.Phases.{ending}
 use Rattle.pp_law.specs.Turn.{rest_with}
 use Rattle.pp_laws.proofs.Tests.{first_holds, second_holds}
 use Rattle.pp_obeys.specs.Failures.{fails}
-use Rattle.pp_turn_law.proofs.HandledSo.{before, come_so, handled_on}
+use Rattle.pp_proxy.specs.Moving.{at_desk}
+use Rattle.pp_turn_law.proofs.HandledSo.{before, come_so, handled_on, supplied_before}
 use Rattle.pp_turn_law.proofs.Kept.{some_log}
+use Rattle.pp_turn_law.proofs.OfCalls.{asked_of, heard_of, written_of}
 use Rattle.pp_turn_law.specs.Awaited.{HasComeBehind, awaiting}
 use Rattle.pp_turn_law.specs.Called.{ClientReadsAreHandled, ClientWritesAreHandled, OriginWritesAreHandled}
 use Rattle.pp_world.specs.Log.{AppendsAll, Log}
@@ -27,7 +31,7 @@ use Rattle.pp_world.specs.declared.happening.Happening.TheVariants.{CanRead, Can
 
 -- ---- the log
 
-none_fails : (hs : Log) → BringNone hs → count_by fails hs ≡ 0
+pub none_fails : (hs : Log) → BringNone hs → count_by fails hs ≡ 0
 none_fails [] none = refl
 none_fails (h ∷ hs) none =
     let first : ◌≡◌ {A = ℕ} (cond (fails h) 1 0) 0 = ap (λ (b : Bool). cond b 1 0) (never_fails h (first_holds (brings_none h) _ none)) in
@@ -35,7 +39,7 @@ none_fails (h ∷ hs) none =
     omega (arith, count_first fails h hs, first, rest)
 
 -- behind the event it has what was added there
-told_then : (log now hs : Log) (wait h : Happening) (old new : Option Log) → old ≡ Some ((log ++ wait ∷ []) ++ h ∷ []) → new ≡ Some now → AppendsAll old new (λ l. hs) → new ≡ Some (log ++ (wait ∷ h ∷ hs))
+pub told_then : (log now hs : Log) (wait h : Happening) (old new : Option Log) → old ≡ Some ((log ++ wait ∷ []) ++ h ∷ []) → new ≡ Some now → AppendsAll old new (λ l. hs) → new ≡ Some (log ++ (wait ∷ h ∷ hs))
 told_then log now hs wait h old new before told added =
     let was : (l : Log) × (old ≡ Some l) × (now ≡ l ++ hs) = added.was now told in
     told ∙ ap (λ (l : Log). Some l)
@@ -56,6 +60,8 @@ client_reads_handled id i life budget log w x f all faults y s place calls =
     (told_then log calls.told.log led.led.log (Waits w) (CanRead id) (Some all) y.log come.came.told calls.told.told led.led.told) calls.linked led.led.leads led.led.handled led.ready
     (let none : count_by fails led.led.log ≡ 0 = none_fails led.led.log silent.none in omega (arith, count_first fails (CanRead id) led.led.log, none))
     (λ few. client_reads_carry (life.terms budget) (log ++ Waits w ∷ []) it.stands.number x.turning.shelf id i (awaiting x f all faults) y (rest_with w (ending s)) before place come.came.linked calls.told calls.handles few led.led)
+    calls.handles (as_heard it.stands.number id i (awaiting x f all faults) y (rest_with w (ending s)) before.stands place calls.handles led.led (heard_of (life.terms budget) (log ++ Waits w ∷ []) it.stands.number x.turning.shelf id i (awaiting x f all faults) y (rest_with w (ending s)) before place come.came.linked calls.told calls.handles led.led)
+    (supplied_before life budget log w (Readable id) x f all faults y s it).counted)
 
 -- ---- a client is written to
 
@@ -75,6 +81,10 @@ client_writes_handled id i seat life budget log w x f all faults y s place here 
     (told_then log calls.told.log led.led.log (Waits w) (CanWrite id) (Some all) y.log come.came.told calls.told.told led.led.told) calls.linked led.led.leads led.led.handled led.ready
     (let none : count_by fails led.led.log ≡ 0 = none_fails led.led.log silent.none in omega (arith, count_first fails (CanWrite id) led.led.log, none))
     (λ few. client_writes_carry (life.terms budget) (log ++ Waits w ∷ []) it.stands.number x.turning.shelf id i (awaiting x f all faults) y woke.new (rest_with w (ending s)) before holds calls.told calls.handles few led.led)
+    calls.handles
+    (as_written it.stands.number id (awaiting x f all faults) y (rest_with w (ending s)) before.stands calls.handles led.led
+    (written_of (life.terms budget) (log ++ Waits w ∷ []) it.stands.number x.turning.shelf id i (awaiting x f all faults) y woke.new (rest_with w (ending s)) before holds calls.told calls.handles led.led)
+    (supplied_before life budget log w (Writable id) x f all faults y s it).counted)
 
 -- ---- an origin is asked
 
@@ -92,3 +102,6 @@ origin_writes_handled k life budget log w x f all faults y s off calls noted =
     (told_then log calls.told.log led.led.log (Waits w) (CanWrite k) (Some all) y.log come.came.told calls.told.told led.led.told) calls.linked led.led.leads led.led.handled led.ready
     (let none : count_by fails led.led.log ≡ 0 = none_fails led.led.log silent.none in omega (arith, count_first fails (CanWrite k) led.led.log, none))
     (λ few. origin_writes_carry (life.terms budget) (log ++ Waits w ∷ []) it.stands.number x.turning.shelf k (awaiting x f all faults) y (rest_with w (ending s)) _ before its.there calls.told calls.handles few noted led.led)
+    calls.handles
+    (as_written it.stands.number k (awaiting x f all faults) y (rest_with w (ending s)) before.stands calls.handles led.led
+    (asked_of k (awaiting x f all faults) (at_desk calls.handles.woken (awaiting x f all faults)) y led.led.log calls.told led.led.told refl asks) (supplied_before life budget log w (Writable k) x f all faults y s it).counted)

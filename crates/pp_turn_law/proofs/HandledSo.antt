@@ -4,6 +4,7 @@ use Rattle.std.specs.Prelude.{count_by}
 use Rattle.pp_desk.specs.declared.desk.Desk.{Desk}
 use Rattle.pp_events_law.specs.Silent.{IsSilentlyHandled}
 use Rattle.pp_events_law.specs.Stands.{AreReadyAt, IsHandled, come}
+use Rattle.pp_given_law.proofs.Stands.{given_events, texts_events}
 use Rattle.pp_joints_law.proofs.Unnoted.{waits_none}
 use Rattle.pp_joints_law.specs.Behind.{CarriesOn, HasFew, StandsBefore}
 use Rattle.pp_joints_law.specs.Carried.{IsCarried}
@@ -20,16 +21,20 @@ use Rattle.pp_obeys.specs.Moves.{Leads}
 use Rattle.pp_obeys.specs.Obeys.{Life}
 use Rattle.pp_places_law.proofs.Links.{as_many}
 use Rattle.pp_proxy.specs.Awaiting.{Standing}
-use Rattle.pp_proxy.specs.Handling.{IsSilent}
+use Rattle.pp_proxy.specs.Handling.{Handles, IsSilent}
 use Rattle.pp_proxy.specs.Moving.{Turning}
+use Rattle.pp_reads_law.specs.Keys.{HasRoomForData}
 use Rattle.pp_rounds_law.proofs.Coming.{none_fail}
 use Rattle.pp_rounds_law.specs.Coming.{ComesTo}
+use Rattle.pp_stays_law.specs.Turns.{AreCounted}
 use Rattle.pp_store.specs.Kept.{KeptMap}
 use Rattle.pp_turn_law.proofs.Along.{then_more}
 use Rattle.pp_turn_law.proofs.Awaited.{come_behind}
+use Rattle.pp_turn_law.proofs.DeskOn.{events_set}
 use Rattle.pp_turn_law.proofs.Waited.{turns_wait}
 use Rattle.pp_turn_law.specs.Awaited.{HasComeBehind, awaiting}
 use Rattle.pp_turn_law.specs.Handled.{IsHandledOn, Turns}
+use Rattle.pp_turn_law.specs.Supplied.{StandsGiven}
 use Rattle.pp_turn_law.specs.Waited.{HasWaitedOn}
 use Rattle.pp_world.specs.Log.{Log}
 use Rattle.pp_world.specs.Wire.{event_happening}
@@ -38,7 +43,7 @@ use Rattle.pp_world.specs.declared.event.Wants.{Wants}
 use Rattle.pp_world.specs.declared.happening.Happening.TheVariants.{Waits}
 
 -- attempts count anew for clients alone
-same_conns : (s t : State) → t ≡ regained s → t.conns ≡ s.conns
+pub same_conns : (s t : State) → t ≡ regained s → t.conns ≡ s.conns
 unfolding regained
 same_conns s t is = ap (λ (u : State). u.conns) is
 
@@ -70,9 +75,25 @@ module _ (life : Life) (budget : ℕ) (log : Log) (w : Wants) (event : Event) (x
   pub before : StandsBefore terms waiting number x.turning.shelf came.moving rested
   before = record { obeys = waited.comes.obeys; stands = waited.awaits.stands; carried = waited.carried; forgotten = alike.forgotten; evicting = alike.evicting }
 
+  -- there is room for what one read brings
+  room : HasRoomForData (come event came)
+  room = omega (arith, it.beside.buffer, it.beside.holds)
+
+  pub supplied_before : StandsGiven f.state rested
+  supplied_before = waited.supplied
+
+  pub supplied_behind : (t : State) → Handles event (come event came) y → AreCounted y.moving.desk.state t → StandsGiven y.moving.desk.state t
+  supplied_behind t handles counts = record {
+    given = given_events event (come event came) y room handles it.straight waited.supplied.given;
+    texts = texts_events event (come event came) y waited.supplied.name room handles it.straight waited.supplied.texts;
+    counted = counts;
+    name = subst (λ (name : List ℕ). length name ≤ 64) (sym (events_set event (come event came) y room handles).name) waited.supplied.name;
+  }
+
   -- by what is added behind the event, in which the outside did not fail, and behind which each connection is open as it was
   module _ (t : State) (hs : Log) (shelf : y.shelf ≡ x.turning.shelf) (counted : faults ≤ y.faults) (told : y.log ≡ Some (log ++ (Waits w ∷ event_happening event ∷ hs))) (linked : IsLinked y.log y.moving.top y.moving.links)
-      (leads : Leads (event_happening event ∷ hs) rested t) (handled : IsHandled number y.moving t) (ready : AreReadyAt number y.moving t) (calm : count_by fails (event_happening event ∷ hs) ≡ 0) (carries : HasFew y.moving → CarriesOn x.turning.shelf y.moving handled.handled) where
+      (leads : Leads (event_happening event ∷ hs) rested t) (handled : IsHandled number y.moving t) (ready : AreReadyAt number y.moving t) (calm : count_by fails (event_happening event ∷ hs) ≡ 0) (carries : HasFew y.moving → CarriesOn x.turning.shelf y.moving handled.handled)
+      (handles : Handles event (come event came) y) (counts : AreCounted y.moving.desk.state handled.handled) where
     went : ComesTo terms log (Waits w ∷ event_happening event ∷ hs) s t
     went = then_more terms log (Waits w ∷ []) (event_happening event ∷ hs) s rested t waited.comes (none_fail rested (count_by fails (event_happening event ∷ hs)) calm) leads
 
@@ -104,6 +125,7 @@ module _ (life : Life) (budget : ℕ) (log : Log) (w : Wants) (event : Event) (x
         ready = ready;
         carried = subst (λ (k : KeptMap). IsCarried k y.moving handled.handled) (sym shelf) (carries few).carried;
         leave = (carries few).leaves;
+        supplied = supplied_behind handled.handled handles counts;
       };
     }
 
@@ -119,5 +141,5 @@ module _ (life : Life) (budget : ℕ) (log : Log) (w : Wants) (event : Event) (x
         (subst (λ (top : ℕ). IsLinked came.log top y.moving.links) (sym quiet.top) (subst (λ (links : List Link). IsLinked came.log (come event came).moving.top links) (sym quiet.links) come_so.came.linked))
 
   pub quiet_on : (t : State) → IsSilent (come event came) y → (led : IsSilentlyHandled number (event_happening event) y rested t) → AreReadyAt number y.moving t → count_by fails (event_happening event ∷ []) ≡ 0 → (HasFew y.moving → CarriesOn x.turning.shelf y.moving led.handled.handled)
-      → IsHandledOn life budget log w event y
-  quiet_on t quiet led ready calm carries = handled_on t [] quiet.shelf quiet.count (quiet_told quiet) (quiet_linked quiet) led.leads led.handled ready calm carries
+      → Handles event (come event came) y → AreCounted y.moving.desk.state led.handled.handled → IsHandledOn life budget log w event y
+  quiet_on t quiet led ready calm carries handles counts = handled_on t [] quiet.shelf quiet.count (quiet_told quiet) (quiet_linked quiet) led.leads led.handled ready calm carries handles counts

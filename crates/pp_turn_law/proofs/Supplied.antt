@@ -9,6 +9,8 @@ use Rattle.pp_asks_law.specs.Rests.{HasNumbers, RestsOn as AsksRestOn}
 use Rattle.pp_closings_law.specs.Sides.{MayClose}
 use Rattle.pp_deciding_law.proofs.Found.{first_keeps}
 use Rattle.pp_desk.specs.declared.desk.Desk.{Desk}
+use Rattle.pp_given_law.proofs.NamesFew.{names_stay}
+use Rattle.pp_given_law.specs.MayNote.{most_names}
 use Rattle.pp_law.specs.Connections.{conn, is_conn}
 use Rattle.pp_law.specs.Phases.{has_closings, next}
 use Rattle.pp_law.specs.State.{State, Conn, Connecting, Term}
@@ -42,7 +44,7 @@ use Rattle.pp_stays_law.proofs.Whole.{turns_stand}
 use Rattle.pp_stays_law.specs.Dials.{MayBeRefusedAlong}
 use Rattle.pp_store.specs.Kept.{KeptMap}
 use Rattle.pp_world.specs.Log.{Log}
-use Rattle.pp_turn_law.specs.Supplied.{StandsSupplied}
+use Rattle.pp_turn_law.specs.Supplied.{StandsServing, StandsSupplied}
 
 -- ---- counts
 
@@ -134,6 +136,16 @@ module _ (terms : List Term) (most : ℕ) (few : most < 2 ^ 50) (shelf : KeptMap
       all_refused terms most before number x.desk.state (around x.desk x.links x.top) s obeys (to_place number x s amid (around_shows number x s amid)) (dials before number x s obeys amid holds (around_shows number x s amid) may)
       steps hs z now e (affords_front s hs rest (subst (λ (l : Log). Affords s l) is (afforded terms before log s t u obeys leads behind))) (front_brief most before hs rest log is brief) reaches leads_now may_now shows waits
 
+  given_conn : (s : State) → IsSoundTurn s → (n : ℕ) (k : Conn) → conn s n ≡ Some k → n ≤ s.top
+  given_conn s sound n k there =
+      let found : IsIn k s.conns × (is_conn n k ≡ true) = in_find (is_conn n) k s.conns there in
+      subst (λ (m : ℕ). m ≤ s.top) (same_number k.number n found.1) (sound.numbers.conns_given k found.0)
+
+  may_place : (before : Log) (number : ℕ → ℕ) (x : Moving) (s : State) → Obeys terms s before → StandsAmid number shelf x s → s.phase ≡ Connecting → has_closings s ≡ false → MayPlace s
+  may_place before number x s obeys amid at none =
+      let sound : IsSoundTurn s = sound_turns terms s before obeys in
+      record { connecting = record { at = at; none = amid.none }; going = amid.going; closed = none; apart = λ n. sound.apart.conns n; given = given_conn s sound }
+
   rounds : RoundSupplies terms most shelf I
   rounds = record {
     decides = decides;
@@ -157,16 +169,6 @@ module _ (terms : List Term) (most : ℕ) (few : most < 2 ^ 50) (shelf : KeptMap
       name = same_name (length x.desk.state.name.items) (length y.desk.state.name.items) (ap (λ (d : Desk). length d.state.name.items) places.rest) holds.name;
     };
   }
-    where
-      given_conn : (s : State) → IsSoundTurn s → (n : ℕ) (k : Conn) → conn s n ≡ Some k → n ≤ s.top
-      given_conn s sound n k there =
-          let found : IsIn k s.conns × (is_conn n k ≡ true) = in_find (is_conn n) k s.conns there in
-          subst (λ (m : ℕ). m ≤ s.top) (same_number k.number n found.1) (sound.numbers.conns_given k found.0)
-
-      may_place : (before : Log) (number : ℕ → ℕ) (x : Moving) (s : State) → Obeys terms s before → StandsAmid number shelf x s → s.phase ≡ Connecting → has_closings s ≡ false → MayPlace s
-      may_place before number x s obeys amid at none =
-          let sound : IsSoundTurn s = sound_turns terms s before obeys in
-          record { connecting = record { at = at; none = amid.none }; going = amid.going; closed = none; apart = λ n. sound.apart.conns n; given = given_conn s sound }
 
   -- ---- the end
 
@@ -176,8 +178,64 @@ module _ (terms : List Term) (most : ℕ) (few : most < 2 ^ 50) (shelf : KeptMap
         replies_may terms before number shelf p s obeys stands (record { given = λ i seat here going. holds.stays.given i seat here; texts = holds.stays.texts; name = holds.name });
   }
 
+  -- ---- with the names that may be noted
+
+  abbrev N : Turn → State → Type 0
+  N = StandsServing shelf
+
+  decides_named : Supplies terms most shelf N
+  decides_named = record {
+    rests = λ before i due p x y log s seat c moment holds next one straight. decides.rests before i due p x y log s seat c moment holds.supplied next one straight;
+    closes = λ before peers p s moment holds. decides.closes before peers p s moment holds.supplied;
+    taken = λ before i due p x y log s seat c moment holds next one straight behind. record {
+      supplied = decides.taken before i due p x y log s seat c moment holds.supplied next one straight behind;
+      names = (names_stay terms shelf most_names).decisions.taken before i due p x y log s seat c (record { obeys = moment.obeys; stands = moment.stands }) holds.names next one straight (record { obeys = behind.obeys; stands = behind.stands });
+    };
+    cut = λ before i cause p x y log s seat c moment holds next one straight behind. record {
+      supplied = decides.cut before i cause p x y log s seat c moment holds.supplied next one straight behind;
+      names = (names_stay terms shelf most_names).decisions.cut before i cause p x y log s seat c (record { obeys = moment.obeys; stands = moment.stands }) holds.names next one straight (record { obeys = behind.obeys; stands = behind.stands });
+    };
+    none = λ before peers p q s moment holds first straight behind. record {
+      supplied = decides.none before peers p q s moment holds.supplied first straight behind;
+      names = (names_stay terms shelf most_names).decisions.none before peers p q s (record { obeys = moment.obeys; stands = moment.stands }) holds.names first straight (record { obeys = behind.obeys; stands = behind.stands });
+    };
+  }
+
+  rounds_named : RoundSupplies terms most shelf N
+  rounds_named = record {
+    decides = decides_named;
+    closes = λ before number x s obeys brief amid holds. rounds.closes before number x s obeys brief amid holds.supplied;
+    counted = λ before number x s n k obeys brief amid holds there. rounds.counted before number x s n k obeys brief amid holds.supplied there;
+    asks = λ before number x seen given s obeys brief amid holds at none sees gives. rounds.asks before number x seen given s obeys brief amid holds.supplied at none sees gives;
+    keeps = λ before number x s obeys brief amid holds. rounds.keeps before number x s obeys brief amid holds.supplied;
+    dials = λ before number x s obeys brief amid holds shows may. rounds.dials before number x s obeys brief amid holds.supplied shows may;
+    silent = λ before number x seen given asked s obeys brief amid holds at none sees gives fills behind amid_behind straight. record {
+      supplied = rounds.silent before number x seen given asked s obeys brief amid holds.supplied at none sees gives fills behind amid_behind straight;
+      names = (names_stay terms shelf most_names).rounds.silent before number x seen given asked s obeys amid (closes_so before number x.desk.state s obeys amid.turn.steps.shows.clients holds.supplied) holds.supplied.stays.counted holds.names at none sees gives fills behind
+          amid_behind straight;
+    };
+    closed = λ before number x y log s t obeys brief amid holds at closes leads behind brief_behind amid_behind straight. record {
+      supplied = rounds.closed before number x y log s t obeys brief amid holds.supplied at closes leads behind brief_behind amid_behind straight;
+      names = (names_stay terms shelf most_names).rounds.closed before number x y log s t obeys amid holds.names at closes leads behind amid_behind straight;
+    };
+    placed = λ before number x y log s t obeys brief amid holds at none places leads done behind brief_behind amid_behind straight. record {
+      supplied = rounds.placed before number x y log s t obeys brief amid holds.supplied at none places leads done behind brief_behind amid_behind straight;
+      names = (names_stay terms shelf most_names).rounds.placed before number x y log s t obeys amid holds.names at none
+          (along before number x log s t (next t) obeys amid holds.supplied (may_place before number x s obeys amid at none) leads behind brief_behind) places leads done behind amid_behind straight;
+    };
+  }
+
+  ends_named : EndSupplies terms most shelf N
+  ends_named = record { begins = λ before number p s obeys brief stands holds. ends.begins before number p s obeys brief stands holds.supplied }
+
 pub rounds_supplied : (terms : List Term) (most : ℕ) → most < 2 ^ 50 → (shelf : KeptMap) → RoundSupplies terms most shelf (StandsSupplied shelf)
 rounds_supplied terms most few shelf = rounds terms most few shelf
 
 pub ends_supplied : (terms : List Term) (most : ℕ) → most < 2 ^ 50 → (shelf : KeptMap) → EndSupplies terms most shelf (StandsSupplied shelf)
 ends_supplied terms most few shelf = ends terms most few shelf
+
+pub rounds_named_so : (terms : List Term) (most : ℕ) → most < 2 ^ 50 → (shelf : KeptMap) → RoundSupplies terms most shelf (StandsServing shelf)
+rounds_named_so terms most few shelf = rounds_named terms most few shelf
+
+pub ends_named_so : (terms : List Term) (most : ℕ) → most < 2 ^ 50 → (shelf : KeptMap) → EndSupplies terms most shelf (StandsServing shelf)
+ends_named_so terms most few shelf = ends_named terms most few shelf

@@ -5,12 +5,15 @@ use Rattle.std.specs.Prelude.{slice_get, slice_set}
 use Rattle.pp_deciding_law.proofs.Disk.{in_place}
 use Rattle.pp_desk.specs.declared.desk.Desk.{Desk}
 use Rattle.pp_due.specs.Waits.{rested_seat}
+use Rattle.pp_given_law.proofs.Counted.{counted_waits}
+use Rattle.pp_given_law.proofs.Stands.{texts_wait}
 use Rattle.pp_joints_law.proofs.Awaited.{rested_await}
 use Rattle.pp_joints_law.proofs.Given.{given_ones}
 use Rattle.pp_joints_law.proofs.Resting.{waits}
 use Rattle.pp_joints_law.specs.Awaiting.{NoSeatIsRefused}
 use Rattle.pp_law.specs.Phases.{ending}
 use Rattle.pp_law.specs.State.{State, Client, Conn, Term}
+use Rattle.pp_laws_left.proofs.BodiedLaws.{left_is_whole}
 use Rattle.pp_laws_left.proofs.Unended.{turns_may_end}
 use Rattle.pp_laws_served.specs.Served.{MayEnd}
 use Rattle.pp_obeys.specs.Obeys.{Life}
@@ -33,6 +36,7 @@ use Rattle.pp_world.specs.Log.{Log}
 use Rattle.pp_world.specs.declared.event.Wants.{Wants}
 use Rattle.pp_world.specs.declared.happening.Happening.TheVariants.{Waits}
 use Rattle.pp_turn_law.specs.Waited.{HasWaitedOn, StandsAtWait, TurnsWait, rested}
+use Rattle.pp_turn_law.proofs.DeskOn.{waits_set}
 use Rattle.pp_turn_law.proofs.Ends.{apart_there, few_clients, few_conns, may_be_asked}
 
 -- ---- a wait leaves what exchanges brought
@@ -79,7 +83,7 @@ module _ (life : Life) (budget : ℕ) (log : Log) (x : Standing) (w : Wants) (cl
       let peers : length d.peers ≡ length (ending s).conns = as_many (ending s) d.peers (ending s).conns st.ended.turn.steps.shows.conns in
       omega (arith, seats, peers, few_clients terms s log st.obeys, few_conns terms s log st.obeys)
 
-  can : MayReadAndAsk st.number x.read d (ending s)
+  pub can : MayReadAndAsk st.number x.read d (ending s)
   can = record {
     can = record {
       may = record {
@@ -95,7 +99,7 @@ module _ (life : Life) (budget : ℕ) (log : Log) (x : Standing) (w : Wants) (cl
   }
 
   waited : HasWaited st.number w d f s
-  waited = wanted_waits terms s log st.number x.read w clients d e f may st.left st.none can awaits rests
+  waited = wanted_waits terms s log st.number x.read w clients d e f may (left_is_whole terms s log may) st.none can awaits rests
 
   comes : ComesTo terms log (Waits w ∷ []) s (rested w s)
   comes = comes_by terms (Waits w ∷ []) log s (rested w s) (none_fail s 0 refl) st.obeys waited.leads
@@ -113,6 +117,12 @@ module _ (life : Life) (budget : ℕ) (log : Log) (x : Standing) (w : Wants) (cl
     gets = origins_read st.number x.read w clients d e (ending s) can.can awaits;
     read = left_read st.number x.read w clients d e f (ending s) can.can awaits rests;
     given = given;
+    supplied = record {
+      given = given;
+      texts = texts_wait x.read w clients d e f awaits rests st.texts;
+      counted = counted_waits x.read w clients d e f (ending s) awaits rests st.counted;
+      name = subst (λ (name : List ℕ). length name ≤ 64) (sym (waits_set x.read w clients d e f awaits rests).name) st.name;
+    };
   }
 
 pub turns_wait : TurnsWait

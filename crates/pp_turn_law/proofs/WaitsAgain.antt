@@ -19,9 +19,11 @@ waits_again life budget before y s it going next = record {
   number = it.served.number;
   ended = it.served.ended;
   carried = it.carried;
-  left = next.left;
   read = next.read;
   apart = next.apart;
-  given = next.given;
+  given = it.supplied.given;
+  texts = it.supplied.texts;
+  counted = it.supplied.counted;
+  name = it.supplied.name;
   noted = next.noted;
 }

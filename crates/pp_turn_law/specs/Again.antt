@@ -1,14 +1,9 @@
 -- From where a turn served to where it may wait again: what a turn leaves, and what is not shown of it yet (ours).
 --
--- Where the premises come from: HasServedOn of Served, by whatever led there. Of `left`, `pp_laws_left` has all but what it says of bodies;
--- `read` is carried over each piece of a turn (`pp_waits_law`); `apart`, as numbers never come twice, and `given` (`pp_given_law`,
--- `pp_stays_law`) are so of each piece.
+-- Where the premises come from: HasServedOn of Served, by whatever led there. Of `read` Whole has all, and of `apart` OverWaits.
 use Rattle.std.specs.Prelude.{◌≡◌, ◌++◌, ℕ, false}
-use Rattle.pp_joints_law.specs.Awaiting.{NoSeatIsRefused}
 use Rattle.pp_joints_law.specs.Unnoted.{NoneIsUnnoted}
-use Rattle.pp_law.specs.Phases.{come_to}
-use Rattle.pp_law.specs.State.{State, DecidingAgain}
-use Rattle.pp_laws_served.specs.Served.{IsLeft}
+use Rattle.pp_law.specs.State.{State}
 use Rattle.pp_obeys.specs.Obeys.{Life}
 use Rattle.pp_proxy.specs.Awaiting.{Standing}
 use Rattle.pp_proxy.specs.Moving.{Turning}
@@ -27,13 +22,11 @@ TurnsNoteAll = (x k y : Turning) → LeavesAndKeeps x k → ServesOn k y → Non
 
 -- ---- where it may wait again
 
-pub record StandsForNext (y : Standing) (t : State) : Type 0 where
-  pub left : IsLeft (come_to DecidingAgain t)
+pub record StandsForNext (y : Standing) : Type 0 where
   pub read : WereRead y.read y.turning.moving.desk.state
   pub apart : OriginsAreApart y.read y.turning.moving.desk
-  pub given : NoSeatIsRefused y.turning.moving.desk.state
   pub noted : NoneIsUnnoted y.turning.moving.desk
 
 -- before Stop
 abbrev pub ServedOnesWaitAgain : Type 0
-ServedOnesWaitAgain = (life : Life) (budget : ℕ) (before : Log) (y : Standing) (s : State) → (it : HasServedOn life budget before y.turning s) → it.served.then.is_stopped ≡ false → StandsForNext y it.served.then → StandsAtWait life budget (before ++ it.added) y it.served.then
+ServedOnesWaitAgain = (life : Life) (budget : ℕ) (before : Log) (y : Standing) (s : State) → (it : HasServedOn life budget before y.turning s) → it.served.then.is_stopped ≡ false → StandsForNext y → StandsAtWait life budget (before ++ it.added) y it.served.then

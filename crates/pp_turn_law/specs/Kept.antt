@@ -2,21 +2,21 @@
 -- the law (RFC 7233, section 4.3, for what asks that bring nothing asked; the order is ours).
 --
 -- Where the premises come from: Handled and Called have StandsHandled behind each event but the read of an origin, and a write before which a
--- chunk is read back. What memory and disk do is TakesEvent of `pp_proxy`.
+-- chunk could not be read back. What memory and disk do is TakesEvent of `pp_proxy`.
 use Rattle.std.specs.Prelude.{◌≡◌, ◌≤◌, ◌+◌, ℕ, Some}
 use Rattle.pp_cache.specs.Bounds.{IsBounded}
 use Rattle.pp_events_law.specs.Stands.{AreReadyAt, IsHandled}
+use Rattle.pp_grown_law.specs.Grown.{NotesGrown}
 use Rattle.pp_joints_law.specs.Carried.{IsCarried}
-use Rattle.pp_joints_law.specs.Keeping.{HasBeenKept, kept_in}
+use Rattle.pp_joints_law.specs.Keeping.{HasBeenKept}
 use Rattle.pp_joints_law.specs.Leaving.{IsToLeave}
-use Rattle.pp_keeps_law.specs.All.{HasGrown}
 use Rattle.pp_law.specs.State.{State}
 use Rattle.pp_obeys.specs.Obeys.{Allows, Life, Obeys}
 use Rattle.pp_proxy.specs.Events.{Keeps}
 use Rattle.pp_proxy.specs.Leaving.{Leaves}
 use Rattle.pp_proxy.specs.Moving.{LeadsOn, Turning}
-use Rattle.pp_shelf_law.specs.AsKept.{EachIsAsKept}
 use Rattle.pp_turn_law.specs.Goes.{GoesTo}
+use Rattle.pp_turn_law.specs.Supplied.{StandsGiven}
 use Rattle.pp_world.specs.Log.{Log}
 
 -- ---- where an event is handled
@@ -29,6 +29,7 @@ pub record StandsHandled (life : Life) (budget : ℕ) (log : Log) (number : ℕ 
   pub ready : AreReadyAt number x.moving s
   pub carried : IsCarried x.shelf x.moving handled.handled
   pub leave : IsToLeave x.moving handled.handled
+  pub supplied : StandsGiven x.moving.desk.state handled.handled
 
 -- what is done then, up to the disk: memory is left, and what stands no more is taken away, and what is whole kept
 pub record LeavesAndKeeps (x y : Turning) : Type 0 where
@@ -37,10 +38,8 @@ pub record LeavesAndKeeps (x y : Turning) : Type 0 where
   pub shelf : left.shelf ≡ x.shelf
   pub bounded : IsBounded left.moving.desk.state.cache
   pub keeps : Keeps left y
-  -- what is whole of each instance is kept in the turn in which it came, and each name has its fields: `pp_grown_law` has both behind a keeping,
-  -- and carries the first over what leaves memory and over rows; that both stand from there to the next keeping has no source yet
-  pub grown : HasGrown (kept_in left)
-  pub kept : EachIsAsKept y.shelf
+  -- each instance that has more to keep is noted where the event is handled: HandledOnesNoteGrown of Grown, from where nothing is to be kept
+  pub grown : NotesGrown x.moving.desk.state x.shelf
 
 -- ---- where decisions come next
 
@@ -49,6 +48,7 @@ pub record HasGoneToDecide (life : Life) (budget : ℕ) (log : Log) (x y : Turni
   pub goes : GoesTo life budget log y s then
   pub number : ℕ → ℕ
   pub kept : HasBeenKept number y then
+  pub supplied : StandsGiven y.moving.desk.state then
   -- neither memory nor the disk says Stop
   pub stopped : y.moving.desk.state.is_stopped ≡ x.moving.desk.state.is_stopped
 

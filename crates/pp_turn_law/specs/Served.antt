@@ -4,6 +4,7 @@
 -- Where the premises come from: HasBeenKept of `pp_joints_law` is where memory and the disk lead (Kept.`HandledOnesGoToDecide`).
 use Rattle.std.specs.Prelude.{◌≡◌, ◌≤◌, ◌<◌, ◌+◌, ◌^◌, ◌++◌, ℕ, false, length, Some}
 use Rattle.pp_cache.specs.Bounds.{IsBounded}
+use Rattle.pp_given_law.specs.MayNote.{most_names}
 use Rattle.pp_joints_law.specs.Carried.{IsCarried}
 use Rattle.pp_joints_law.specs.Keeping.{HasBeenKept}
 use Rattle.pp_law.specs.Phases.{ending}
@@ -13,7 +14,7 @@ use Rattle.pp_proxy.specs.Moving.{LeadsOn, Turning}
 use Rattle.pp_proxy.specs.Settling.{Settles}
 use Rattle.pp_rounds_law.specs.Serves.{HasServed}
 use Rattle.pp_turn_law.specs.Kept.{HasGoneToDecide, LeavesAndKeeps, StandsHandled}
-use Rattle.pp_turn_law.specs.Supplied.{StandsSupplied}
+use Rattle.pp_turn_law.specs.Supplied.{StandsGiven, StandsServing}
 use Rattle.pp_world.specs.Log.{Log}
 
 -- ---- where decisions come next
@@ -42,13 +43,17 @@ pub record HasServedOn (life : Life) (budget : ℕ) (log : Log) (y : Turning) (s
   pub served : HasServed (life.terms budget) log y.shelf y.moving added s
   pub allows : Allows life budget y.faults served.then
   pub carried : IsCarried y.shelf y.moving (ending served.then)
+  -- where replies have begun
+  pub supplied : StandsGiven y.moving.desk.state (ending served.then)
+  -- few names are noted (MayNote of `pp_given_law`)
+  pub few : length y.moving.desk.state.cache.outdated ≤ most_names
 
 -- in a log of fewer happenings than this: so no count ends at 2^64 (`pp_laws_sides`)
 abbrev pub most_happenings : ℕ
 most_happenings = 2 ^ 50
 
 abbrev pub DecidingOnesServe : Type 0
-DecidingOnesServe = (life : Life) (budget : ℕ) (log after : Log) (number : ℕ → ℕ) (x y : Turning) (s : State) → StandsToServe life budget log number x s → StandsSupplied x.shelf x.moving.desk.state s → ServesOn x y → y.log ≡ Some after → y.faults ≤ budget + life.base
+DecidingOnesServe = (life : Life) (budget : ℕ) (log after : Log) (number : ℕ → ℕ) (x y : Turning) (s : State) → StandsToServe life budget log number x s → StandsServing x.shelf x.moving.desk.state s → ServesOn x y → y.log ≡ Some after → y.faults ≤ budget + life.base
     → length after < most_happenings → HasServedOn life budget log y s
 
 -- ---- and from an event that is handled
@@ -61,6 +66,4 @@ pub record HasServedBehind (life : Life) (budget : ℕ) (log : Log) (x y : Turni
 
 abbrev pub HandledOnesServe : Type 0
 HandledOnesServe = (life : Life) (budget : ℕ) (log after : Log) (number : ℕ → ℕ) (x k y : Turning) (s : State) → StandsHandled life budget log number x s → LeavesAndKeeps x k
-    -- where decisions come next, along this log; `pp_given_law` and `pp_grown_law` carry it there piece by piece, which is not joined yet
-    → ((gone : HasGoneToDecide life budget log x k s) → StandsSupplied k.shelf k.moving.desk.state gone.then)
     → ServesOn k y → x.moving.desk.state.is_stopped ≡ false → y.log ≡ Some after → y.faults ≤ budget + life.base → length after < most_happenings → HasServedBehind life budget log x y s

@@ -1,5 +1,5 @@
 // An event that is handled.
-ghost use Rattle.pp_turn_law.specs.Called.{ClientReadsAreHandled, ClientWritesAreHandled, OriginWritesAreHandled};
+ghost use Rattle.pp_turn_law.specs.Called.{ClientLoadsAreHandled, ClientReadsAreHandled, ClientWritesAreHandled, OriginWritesAreHandled};
 ghost use Rattle.pp_turn_law.specs.Handled.{BrokenOnesAreHandled, ClientsAreHandled, ReachedOnesAreHandled, StopsAreHandled, TicksAreHandled};
 
 /// From the end of a turn, over its wait, to where Stop, an origin that was reached, a client that comes, a tick, or a connection that
@@ -17,4 +17,9 @@ pub fn calls_are_handled()
     ensures reads { ClientReadsAreHandled }
     ensures writes { ClientWritesAreHandled }
     ensures asks { OriginWritesAreHandled }
+{}
+
+/// And to where a client is written to whose next byte is on the disk alone, or where its chunk could not be read back.
+pub fn loads_are_handled()
+    ensures { ClientLoadsAreHandled }
 {}

@@ -1,11 +1,24 @@
-//! A turn as one: from an event that is handled to the next wait, beside a log that obeys the law.
+//! A turn as one: from one wait to the next, beside a log that obeys the law.
 //!
-//! `specs/Kept.antt`: what leaves memory, and what is for the disk. `specs/Served.antt`: from the first decision to where the turn may wait
-//! again, with what decisions and rounds rest on supplied (`specs/Supplied.antt`). `specs/Waited.antt`: the wait. `specs/Awaited.antt`: an event
-//! behind it, as `pp_comes_law` takes it to where it is handled. `specs/Handled.antt` and `specs/Called.antt` join both ends, event by event, with
-//! all that is carried; and `specs/Again.antt` says what is left to be shown where a turn served, for the next wait.
+//! `specs/Going.antt` has all of it: where a turn waits, and its event is handled, it leads on to the next wait, and all that it carries stands
+//! there. Its pieces: `specs/Waited.antt`, the wait; `specs/Awaited.antt`, an event behind it, as `pp_comes_law` takes it to where it is handled;
+//! `specs/Handled.antt`, `specs/Called.antt` and `specs/Read.antt`, each event, with all that is carried; `specs/Kept.antt`, what leaves memory, and
+//! what is for the disk, which is so behind a chunk that could not be read back too (`specs/Lost.antt`); `specs/Served.antt`, from the first
+//! decision to where the turn may wait again, with what decisions and rounds rest on supplied (`specs/Supplied.antt`); and `specs/Again.antt`, the
+//! next wait.
 //!
-//! Not said: the same of the read of an origin, and of a write before which a chunk is read back.
+//! What is carried beside: nobody waits for a row that memory was refused for, what each client is to be said first has room, and of what is dropped
+//! as much is counted as came (`StandsGiven` of `specs/Supplied.antt`); which numbers connections get, and how many names are noted
+//! (`specs/OverWaits.antt`); that what grew is noted where the keeping begins, and behind it nothing is to be kept up to the next event
+//! (`specs/Grown.antt`); who was read, and what is read into (`specs/Whole.antt`). Of the program alone: clients stand in the order of their numbers
+//! (`specs/Ordered.antt`), a life that went astray stays so (`specs/Straight.antt`), and the cache may have as many chunks as before
+//! (`specs/Sized.antt`).
+//!
+//! `specs/First.antt` has all of the first turn, from where a life listens to the second wait, with its event and how often the outside failed before it
+//! of `specs/Opening.antt`; `specs/Stopping.antt` all of the last: from its wait, over Stop (`specs/Stopped.antt`), to where the log may end.
+//! `specs/Exits.antt`: each turn has its event, and where it ended the log may end.
+//!
+//! Not said: what the bytes of a read rest on, and what is carried behind them.
 //!
 //! To the layer above: each is the clause of a function that does nothing. It is one part of the proof that the program obeys the law.
 //!
@@ -14,14 +27,40 @@
 
 mod again; // and the next wait
 mod coming; // an event, behind the wait
+mod ending; // the last turn
+mod first; // the first turn, to the second wait
+mod going; // all of a turn
+mod growing; // what grew
 mod handling; // an event that is handled
 mod keeping; // memory and the disk
+mod lost; // a chunk that could not be read back
+mod opening; // the first event
+mod over; // from one wait to the next
+mod reading; // an origin that is read
 mod serving; // decisions, rounds, and the end
+mod sized; // how large the cache may be
+mod staying; // a whole turn
+mod stopping; // at Stop
+mod straight; // the order of clients, and where a life did not go astray
 mod waiting; // to an event
+mod ways; // out of a wait, and out of a life
 
 pub use again::served_ones_wait_again;
 pub use coming::events_are_awaited;
-pub use handling::{calls_are_handled, silent_ones_are_handled};
+pub use ending::turns_stop;
+pub use first::first_turns_go_on;
+pub use going::turns_go_on;
+pub use growing::what_grew_is_kept;
+pub use handling::{calls_are_handled, loads_are_handled, silent_ones_are_handled};
 pub use keeping::handled_ones_go_to_decide;
+pub use lost::lost_ones_go_to_decide;
+pub use opening::{first_events_are_handled, openings_are_counted};
+pub use over::{names_have_room_behind_waits, origins_are_apart_again};
+pub use reading::origin_reads_are_handled;
 pub use serving::deciding_ones_serve;
+pub use sized::turns_keep_size;
+pub use staying::{next_waits_stand_beside, read_ones_stay_read};
+pub use stopping::stopped_ones_end;
+pub use straight::{astray_ones_stay_astray, clients_stay_ordered, straight_ones_were_straight};
 pub use waiting::turns_wait;
+pub use ways::turns_have_events;

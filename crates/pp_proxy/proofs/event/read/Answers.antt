@@ -32,6 +32,7 @@ returns-in-Some-clause-is g c = λ seated.
         hears = c.hear.ensures.is roused_seated;
         numbers = c.hear.ensures.numbers ∙ same;
         rest = c.hear.ensures.rest;
+        long = c.hear.ensures.long;
         one = record { shelf = refl; links = refl; top = c.hear.ensures.top; count = c.hear.ensures.faults };
       });
     }

@@ -29,6 +29,7 @@ returns-clause-is g c =
       kept = turning kept.shelf kept.desk event.links (top kept.world) (log kept.world) (faults kept.world);
       handles = c.handle.ensures.is;
       handled_bounded = c.bounds.ensures;
+      handled_linked = c.handle.ensures.linked;
       leaves = λ seated.
           let numbers = left_numbers anew left c.leave_memory.ensures.is in
           let left_seated : AreSeated left = subst (λ (ns : List ℕ). AreInOrder ns) (sym (numbers ∙ c.regain.ensures.numbers)) seated in

@@ -1,6 +1,7 @@
 use Rattle.std.proofs.Common.{refl}
-use Rattle.std.specs.Prelude.{Err}
+use Rattle.std.specs.Prelude.{Ok, Err}
 use Rattle.pp_recover.proofs.BackedLemmas.{opens_backed}
+use Rattle.pp_recover.proofs.CountLemmas.{counts_listed, counts_then}
 use Rattle.pp_recover.proofs.CoverLemmas.{covers_ok}
 use Rattle.pp_recover.proofs.OpenLemmas.{fresh_mid, went, opens_ok, opens_front, holds_ok, went_moments, none_moments, list_moments, same_entries}
 use Rattle.pp_recover.proofs.opening.open.Goals as goal
@@ -69,3 +70,15 @@ returns-clause-holds g c =
 
 pub returns-clause-covers : goal.returns-clause-covers
 returns-clause-covers g c = covers_ok _ _ c.tend_all.new.store (returns-clause-opens g c) (returns-clause-moments g c)
+
+pub returns-in_err-names-clause-counted : goal.returns-in_err-names-clause-counted
+returns-in_err-names-clause-counted g c =
+    counts_listed {A = Unit {0}} _ _ _ _ (Err c.in_err-names.field-0.0) c.in_err-names.ensures.told c.in_err-names.ensures.cause c.in_err-names.ensures.faults
+
+pub returns-in_err-tend_all-clause-counted : goal.returns-in_err-tend_all-clause-counted
+returns-in_err-tend_all-clause-counted g c =
+    counts_then _ _ _ _ _ _ (counts_listed _ _ _ _ (Ok c.in_ok-names.names) c.in_ok-names.ensures.told c.in_ok-names.ensures.cause c.in_ok-names.ensures.faults) c.in_err-tend_all.ensures.counted
+
+pub returns-clause-counted : goal.returns-clause-counted
+returns-clause-counted g c =
+    counts_then _ _ _ _ _ _ (counts_listed _ _ _ _ (Ok c.in_ok-names.names) c.in_ok-names.ensures.told c.in_ok-names.ensures.cause c.in_ok-names.ensures.faults) c.in_ok-tend_all.ensures.counted

@@ -3,6 +3,7 @@ use Rattle.std.specs.Prelude.{is_ok}
 use Rattle.pp_world.specs.Disk.{Bytes}
 use Rattle.pp_gate.proofs.SealLemmas.{err_not_ok}
 use Rattle.pp_recover.specs.Looks.{Extends}
+use Rattle.pp_recover.proofs.CountLemmas.{counts_then}
 use Rattle.pp_recover.proofs.NameLemmas.{distinct, distinct_front, distinct_at}
 use Rattle.pp_recover.proofs.EachLemmas.{SoFarAll, stands_now, one_more, some_names, all_names, take_more}
 use Rattle.pp_recover.proofs.opening.tend_all.Goals as goal
@@ -17,6 +18,9 @@ returns-in_err-tend-clause-tends g c =
     some_names _ _ _ c.args.names.now c.loop-name.name-index c.loop-name.store c.tend.new.store (is_ok c.from_residual.result) (err_not_ok c.from_residual.result c.from_residual.ensures.0)
     c.loop-name-test.true (distinct_front c.args.names.now c.loop-name.name-index c.loop-name-test.true (distinct c.args.names.now c.requires.rising)) c.loop-name.invariant.tended c.in_err-tend.ensures.tends
 
+pub returns-in_err-tend-clause-counted : goal.returns-in_err-tend-clause-counted
+returns-in_err-tend-clause-counted g c = counts_then _ _ _ _ _ _ c.loop-name.invariant.counted c.in_err-tend.ensures.counted
+
 pub loop-name-preserved : goal.loop-name-preserved
 loop-name-preserved g c = record {
   tended = subst (λ (ns : List Bytes). Extends (g.D.Logged.log c.args.disk.now) (g.D.Logged.log c.tend.new.disk) (SoFarAll ns c.tend.new.store))
@@ -27,6 +31,7 @@ loop-name-preserved g c = record {
       (distinct_at c.args.names.now c.loop-name.name-index j (omega (arith, from)) lt (distinct c.args.names.now c.requires.rising))
       (c.loop-name.invariant.free j (omega (arith, from)) lt);
   faults = omega (arith, c.in_ok-tend.ensures.faults, c.loop-name.invariant.faults);
+  counted = counts_then _ _ _ _ _ _ c.loop-name.invariant.counted c.in_ok-tend.ensures.counted;
   top = c.in_ok-tend.ensures.top ∙ c.loop-name.invariant.top;
 }
 

@@ -16,6 +16,7 @@ returns-in-Ok g c = record {
     opens = record {
       opens = rw c.as_slice.ensures at (c.in-Ok.ensures.opens);
       recovers = rw c.as_slice.ensures at (c.in-Ok.ensures.recovers);
+      counted = c.in-Ok.ensures.counted;
       by = record { top = c.in-Ok.ensures.top; count = c.in-Ok.ensures.faults };
     };
     goes = rw c.door_of.ensures.port at (c.listen.ensures.turns served);

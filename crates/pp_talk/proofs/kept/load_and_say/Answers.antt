@@ -24,4 +24,5 @@ returns-clause-is g c = λ seated.
       says = c.say.ensures.is seated_then;
       rest = c.say.ensures.rest;
       counted = c.say.ensures.faults;
+      bounded = c.bounds.ensures;
     }

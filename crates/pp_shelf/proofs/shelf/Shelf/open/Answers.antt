@@ -1,5 +1,5 @@
 use Rattle.std.proofs.Common.{Ok, Err}
-use Rattle.pp_shelf.proofs.OpeningLemmas.{fresh_behind, holds_behind, opens_as, recovers_behind}
+use Rattle.pp_shelf.proofs.OpeningLemmas.{counts_behind, fresh_behind, holds_behind, opens_as, recovers_behind}
 use Rattle.pp_shelf.proofs.shelf.Shelf.open.Goals as goal
 
 pub open-requires : goal.open-requires
@@ -19,3 +19,9 @@ returns-in-Ok-clause-recovers g c = rw c.new.ensures (recovers_behind c.args.fol
 
 pub returns-in-Err-clause-recovers : goal.returns-in-Err-clause-recovers
 returns-in-Err-clause-recovers g c = recovers_behind c.args.folder.now (Err c.in-Err.fault) c.root.ensures.told c.in-Err.ensures.opens
+
+pub returns-in-Ok-clause-counted : goal.returns-in-Ok-clause-counted
+returns-in-Ok-clause-counted g c = counts_behind c.args.folder.now _ _ _ c.root.ensures.told c.root.ensures.faults c.in-Ok.ensures.counted
+
+pub returns-in-Err-clause-counted : goal.returns-in-Err-clause-counted
+returns-in-Err-clause-counted g c = counts_behind c.args.folder.now _ _ _ c.root.ensures.told c.root.ensures.faults c.in-Err.ensures.counted

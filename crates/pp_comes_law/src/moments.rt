@@ -1,0 +1,7 @@
+// Each moment of a read of an origin.
+ghost use Rattle.pp_comes_law.specs.Moments.{ReadsRest};
+
+/// What each piece of a read rests on is there, from a lawful log, beside what is still asked of each moment.
+pub fn reads_rest_on_what_is_there()
+    ensures { ReadsRest }
+{}

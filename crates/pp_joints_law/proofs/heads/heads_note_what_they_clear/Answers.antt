@@ -1,0 +1,6 @@
+use Rattle.pp_joints_law.proofs.NotedHeads.{own_heads_note}
+use Rattle.pp_joints_law.proofs.NotedPassed.{passed_heads_note}
+use Rattle.pp_joints_law.proofs.heads.heads_note_what_they_clear.Goals as goal
+
+pub returns : goal.returns
+returns c = record { own = own_heads_note; passed = passed_heads_note }

@@ -1,0 +1,5 @@
+use Rattle.pp_turn_law.proofs.TurnStops.{turns_end}
+use Rattle.pp_turn_law.proofs.ending.turns_stop.Goals as goal
+
+pub returns : goal.returns
+returns c = turns_end

@@ -1,0 +1,87 @@
+-- From one wait to the next: all of a turn, beside a log that obeys the law (ours).
+--
+-- Where the premises come from: what a turn does is TurnsOn of `pp_proxy`; which events are handled say Handled, Called and Read. As a life begins
+-- its first event is handled (Opening), and from there it goes on as here. That there are as many chunks as are set, which the write to a client
+-- rests on whose next byte is on the disk alone, Sized has of the program; that the settings of a life stay is not said here.
+use Rattle.std.specs.Prelude.{◌≡◌, ◌≤◌, ◌<◌, ◌⊎◌, ◌+◌, ◌++◌, ℕ, [], ◌∷◌, length, slice_get, vec_capacity, Some, None, ⊤}
+use Rattle.pp_desk.specs.declared.desk.Desk.{Desk}
+use Rattle.pp_due.specs.OnDisk.{next_on_disk}
+use Rattle.pp_given_law.specs.MayNote.{most_names}
+use Rattle.pp_grown_law.specs.Grown.{HasNothingToKeep}
+use Rattle.pp_law.specs.State.{State}
+use Rattle.pp_laws_sides.specs.Counts.{IsShortLog}
+use Rattle.pp_obeys.specs.Obeys.{Life}
+use Rattle.pp_proxy.specs.Awaiting.{Standing, TurnsOn}
+use Rattle.pp_proxy.specs.Moving.{Turning}
+use Rattle.pp_proxy.specs.declared.proxy.Turn.TheVariants.{Went}
+use Rattle.pp_seats.specs.declared.seat.Next.{Next}
+use Rattle.pp_seats.specs.declared.seat.Seat.{Seat}
+use Rattle.pp_state.specs.Ends.{numbers_of, place_of}
+use Rattle.pp_turn_law.specs.Called.{Calls, IsLostOn, StandsToLoad}
+use Rattle.pp_turn_law.specs.Handled.{IsHandledOn}
+use Rattle.pp_turn_law.specs.Ordered.{StandsOrdered}
+use Rattle.pp_turn_law.specs.Read.{BroughtNone}
+use Rattle.pp_turn_law.specs.Served.{most_happenings}
+use Rattle.pp_turn_law.specs.Straight.{IsStraight}
+use Rattle.pp_turn_law.specs.Waited.{StandsAtWait}
+use Rattle.pp_world.specs.Log.{Log}
+use Rattle.pp_world.specs.declared.event.Event.{Event}
+use Rattle.pp_world.specs.declared.event.Event.TheVariants.{Accepted, Broken, Readable, Reached, Stop, Tick, Writable}
+use Rattle.pp_world.specs.declared.event.Wants.{Wants}
+use Rattle.pp_world.specs.declared.happening.Happening.TheVariants.{Waits}
+
+-- ---- at a wait
+
+-- all that a turn carries to the next wait
+pub record StandsOn (life : Life) (budget : ℕ) (log : Log) (x : Standing) (s : State) : Type 0 where
+  pub wait : StandsAtWait life budget log x s
+  -- what is read into
+  pub buffer : length x.turning.moving.desk.buffer.items ≡ 32768
+  pub holds : 32768 ≤ vec_capacity x.turning.moving.desk.«data»
+  pub ordered : StandsOrdered x.turning.moving
+  -- for the disk nothing is left to be kept, and few names are noted
+  pub nothing : HasNothingToKeep x.turning.moving.desk.state x.turning.shelf
+  pub few : length x.turning.moving.desk.state.cache.outdated ≤ most_names
+
+-- ---- its event
+
+-- it is handled, or the chunk of a client that was to be written to could not be read back
+abbrev pub IsTaken : Life → ℕ → Log → Wants → Event → Turning → Type 0
+IsTaken life budget log w Stop h = IsHandledOn life budget log w Stop h
+IsTaken life budget log w (Tick seconds) h = IsHandledOn life budget log w (Tick seconds) h
+IsTaken life budget log w (Accepted c) h = IsHandledOn life budget log w (Accepted c) h
+IsTaken life budget log w (Readable id) h = IsHandledOn life budget log w (Readable id) h
+IsTaken life budget log w (Writable id) h = IsHandledOn life budget log w (Writable id) h ⊎ IsLostOn life budget log w id h
+IsTaken life budget log w (Reached k) h = IsHandledOn life budget log w (Reached k) h
+IsTaken life budget log w (Broken k) h = IsHandledOn life budget log w (Broken k) h
+
+-- so is whatever comes at this wait
+abbrev pub EventsAreHandled : Life → ℕ → Log → Standing → State → Type 0
+EventsAreHandled life budget log x s = (w : Wants) (event : Event) (f : Desk) (all : Log) (faults : ℕ) (h : Turning) → Calls life budget log w event x f all faults h s → IsTaken life budget log w event h
+
+-- it brings no bytes of an origin; and where a client is written to whose next byte is on the disk alone, its chunk may be read back
+abbrev pub IsPlain : Life → ℕ → Standing → State → Event → Desk → Log → Turning → Type 0
+IsPlain life budget x s Stop f all h = ⊤
+IsPlain life budget x s (Tick seconds) f all h = ⊤
+IsPlain life budget x s (Accepted c) f all h = ⊤
+IsPlain life budget x s (Readable id) f all h = place_of id (numbers_of f.state.seats.items) ≡ None → BroughtNone id all h
+IsPlain life budget x s (Writable id) f all h = (i : ℕ) (seat : Seat) (next : Next) → place_of id (numbers_of f.state.seats.items) ≡ Some i → slice_get f.state.seats.items i ≡ Some seat → next_on_disk f.state seat ≡ Some next → StandsToLoad life budget x h s
+IsPlain life budget x s (Reached k) f all h = ⊤
+IsPlain life budget x s (Broken k) f all h = ⊤
+
+-- each of these is taken; the log is not too long with the wait
+abbrev pub PlainOnesAreHandled : Type 0
+PlainOnesAreHandled = (life : Life) (budget : ℕ) (log : Log) (x : Standing) (s : State) → StandsOn life budget log x s → (w : Wants) (event : Event) (f : Desk) (all : Log) (faults : ℕ) (h : Turning) → Calls life budget log w event x f all faults h s → IsShortLog (log ++ Waits w ∷ []) → IsPlain life budget x s event f all h
+    → IsTaken life budget log w event h
+
+-- ---- at the next
+
+pub record GoesOnTo (life : Life) (budget : ℕ) (log : Log) (y : Standing) : Type 0 where
+  pub added : Log
+  pub then : State
+  pub stands : StandsOn life budget (log ++ added) y then
+
+-- where the log is told behind the turn, this life did not go astray by it, and the outside failed no more often than the life may have
+abbrev pub TurnsGoOn : Type 0
+TurnsGoOn = (life : Life) (budget : ℕ) (log after : Log) (x y : Standing) (s : State) → StandsOn life budget log x s → EventsAreHandled life budget log x s → TurnsOn Went x y → IsStraight y.turning → y.turning.log ≡ Some after → y.turning.faults ≤ budget + life.base → length after < most_happenings
+    → GoesOnTo life budget log y
