@@ -62,7 +62,7 @@ module _ (life : Life) (budget : ℕ) (log : Log) (conf : Conf) (p : Proxy) (she
 
   -- ---- all of it
 
-  over : StandsOver life budget log (opened_at p shelf top log faults) s (λ n. n) turns.wants turns.clients turns.rested
+  over : StandsOver life budget log (opened_at p shelf top log faults) s (λ n. n) turns.wants turns.clients turns.rested turns.event
   over = record {
     log_is = refl;
     waited = first_wait life budget log conf p shelf top faults s (λ n. n) turns.wants turns.clients turns.awaiting turns.rested it short turns.awaits turns.rests;
@@ -72,7 +72,7 @@ module _ (life : Life) (budget : ℕ) (log : Log) (conf : Conf) (p : Proxy) (she
     file = it.opened.buffers.file;
     going = it.opened.new.goes;
     nothing = empty_have p.desk.state shelf (ap (λ (m : Memory). m.instances) it.opened.new.cache) (ap (λ (m : Memory). m.grown) it.opened.new.cache);
-    handled = λ event all now h taken. handled_taken life budget log turns.wants event h (first_handled event life budget log conf p shelf top faults turns.wants turns.rested all now h s (record {
+    handled = λ event is all now h taken. handled_taken life budget log turns.wants event h (first_handled event life budget log conf p shelf top faults turns.wants turns.rested all now h s (record {
       begins = it;
       name = short;
       allows = allows;

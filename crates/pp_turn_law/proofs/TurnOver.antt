@@ -119,7 +119,7 @@ pub record HasTaken (w : Wants) (event : Event) (x : Standing) (f : Desk) (all :
   pub linked : IsLinked h.log h.moving.top h.moving.links
 
 -- what a turn goes over, wherever its wait was
-pub record StandsOver (life : Life) (budget : ℕ) (log : Log) (x : Standing) (s : State) (number : ℕ → ℕ) (w : Wants) (clients : ℕ) (f : Desk) : Type 0 where
+pub record StandsOver (life : Life) (budget : ℕ) (log : Log) (x : Standing) (s : State) (number : ℕ → ℕ) (w : Wants) (clients : ℕ) (f : Desk) (its : Option Event) : Type 0 where
   pub log_is : x.turning.log ≡ Some log
   pub waited : HasWaitedOn life budget log x w clients f number s
   pub ordered : StandsOrdered x.turning.moving
@@ -128,12 +128,12 @@ pub record StandsOver (life : Life) (budget : ℕ) (log : Log) (x : Standing) (s
   pub file : length x.turning.moving.desk.file.items ≡ 286720
   pub going : x.turning.moving.desk.state.is_stopped ≡ false
   pub nothing : HasNothingToKeep x.turning.moving.desk.state x.turning.shelf
-  -- whatever comes is handled
-  pub handled : (event : Event) (all : Log) (faults : ℕ) (h : Turning) → HasTaken w event x f all faults h → IsTaken life budget log w event h
+  -- its event is taken
+  pub handled : (event : Event) → its ≡ Some event → (all : Log) (faults : ℕ) (h : Turning) → HasTaken w event x f all faults h → IsTaken life budget log w event h
   -- those that are read
   pub read : AreClients (take clients w.read.items) f
 
-module _ (life : Life) (budget : ℕ) (log after : Log) (x y : Standing) (s : State) (number : ℕ → ℕ) (turns : TurnsOn Went x y) (st : StandsOver life budget log x s number turns.wants turns.clients turns.rested) (well : IsStraight y.turning) (told : y.turning.log ≡ Some after)
+module _ (life : Life) (budget : ℕ) (log after : Log) (x y : Standing) (s : State) (number : ℕ → ℕ) (turns : TurnsOn Went x y) (st : StandsOver life budget log x s number turns.wants turns.clients turns.rested turns.event) (well : IsStraight y.turning) (told : y.turning.log ≡ Some after)
     (few : y.turning.faults ≤ budget + life.base) (brief : length after < most_happenings) (event : Event) (is : turns.event ≡ Some event) where
   abbrev w : Wants
   w = turns.wants
@@ -220,7 +220,7 @@ module _ (life : Life) (budget : ℕ) (log after : Log) (x y : Standing) (s : St
   handles_there = subst (λ (o : Option Log). Handles event (behind event o came.faults here) h) came_log.1 handles
 
   on : IsTaken life budget log w event h
-  on = st.handled event all came.faults h (record {
+  on = st.handled event is all came.faults h (record {
     beside = beside;
     comes = comes;
     counted = came.count;
@@ -317,14 +317,14 @@ module _ (life : Life) (budget : ℕ) (log after : Log) (x y : Standing) (s : St
 
 -- ---- from one wait to the next
 
-pub turns_over : (life : Life) (budget : ℕ) (log after : Log) (x y : Standing) (s : State) (number : ℕ → ℕ) (turns : TurnsOn Went x y) → StandsOver life budget log x s number turns.wants turns.clients turns.rested → IsStraight y.turning → y.turning.log ≡ Some after
+pub turns_over : (life : Life) (budget : ℕ) (log after : Log) (x y : Standing) (s : State) (number : ℕ → ℕ) (turns : TurnsOn Went x y) → StandsOver life budget log x s number turns.wants turns.clients turns.rested turns.event → IsStraight y.turning → y.turning.log ≡ Some after
     → y.turning.faults ≤ budget + life.base → length after < most_happenings → GoesOnTo life budget log y
 turns_over life budget log after x y s number turns st well told few brief =
     let comes : (event : Event) × (turns.event ≡ Some event) = turns_come life budget log Went x y number s turns st.waited in
     goes_on_to life budget log after x y s number turns st well told few brief comes.0 comes.1
 
 pub turns_go : TurnsGoOn
-turns_go life budget log after x y s st handled_so turns well told few brief =
+turns_go life budget log after x y s st turns taken_so well told few brief =
     turns_over life budget log after x y s st.wait.number turns (record {
       log_is = st.wait.told;
       waited = turns_wait life budget log x turns.wants turns.clients turns.awaiting turns.rested s st.wait turns.awaits turns.rests;
@@ -334,7 +334,7 @@ turns_go life budget log after x y s st handled_so turns well told few brief =
       file = st.wait.carried.set.file;
       going = st.wait.ended.turn.stopped ∙ ap (λ (g : Frame). g.is_stopped) (ending-frame false s) ∙ st.wait.going;
       nothing = st.nothing;
-      handled = λ event all faults h it. handled_so turns.wants event turns.rested all faults h (record {
+      handled = λ event is all faults h it. taken_so event is all faults h (record {
         turns = record {
           stands = st.wait;
           clients = turns.clients;

@@ -55,9 +55,9 @@ IsTaken life budget log w (Writable id) h = IsHandledOn life budget log w (Writa
 IsTaken life budget log w (Reached k) h = IsHandledOn life budget log w (Reached k) h
 IsTaken life budget log w (Broken k) h = IsHandledOn life budget log w (Broken k) h
 
--- so is whatever comes at this wait
-abbrev pub EventsAreHandled : Life → ℕ → Log → Standing → State → Type 0
-EventsAreHandled life budget log x s = (w : Wants) (event : Event) (f : Desk) (all : Log) (faults : ℕ) (h : Turning) → Calls life budget log w event x f all faults h s → IsTaken life budget log w event h
+-- so is the event of a turn
+abbrev pub ItsEventIsTaken : (life : Life) (budget : ℕ) (log : Log) (x y : Standing) (s : State) → TurnsOn Went x y → Type 0
+ItsEventIsTaken life budget log x y s turns = (event : Event) → turns.event ≡ Some event → (all : Log) (faults : ℕ) (h : Turning) → Calls life budget log turns.wants event x turns.rested all faults h s → IsTaken life budget log turns.wants event h
 
 -- it brings no bytes of an origin; and where a client is written to whose next byte is on the disk alone, its chunk may be read back
 abbrev pub IsPlain : Life → ℕ → Standing → State → Event → Desk → Log → Turning → Type 0
@@ -83,5 +83,5 @@ pub record GoesOnTo (life : Life) (budget : ℕ) (log : Log) (y : Standing) : Ty
 
 -- where the log is told behind the turn, this life did not go astray by it, and the outside failed no more often than the life may have
 abbrev pub TurnsGoOn : Type 0
-TurnsGoOn = (life : Life) (budget : ℕ) (log after : Log) (x y : Standing) (s : State) → StandsOn life budget log x s → EventsAreHandled life budget log x s → TurnsOn Went x y → IsStraight y.turning → y.turning.log ≡ Some after → y.turning.faults ≤ budget + life.base → length after < most_happenings
+TurnsGoOn = (life : Life) (budget : ℕ) (log after : Log) (x y : Standing) (s : State) → StandsOn life budget log x s → (turns : TurnsOn Went x y) → ItsEventIsTaken life budget log x y s turns → IsStraight y.turning → y.turning.log ≡ Some after → y.turning.faults ≤ budget + life.base → length after < most_happenings
     → GoesOnTo life budget log y
