@@ -22,9 +22,9 @@ use Rattle.pp_states_law.specs.States.{ShowsState}
 use Rattle.pp_state.specs.Bodies.{body_by, is_passed, with_body, with_body_for}
 use Rattle.pp_state.specs.Ends.{Parts, bound_by, on_seat_where}
 use Rattle.pp_answers.specs.FinalHeads.{noted_body}
-use Rattle.pp_steps_law.proofs.Told.{told_asked, told_next}
-use Rattle.pp_steps_law.specs.Steps.{ShowsSteps, whole}
-use Rattle.pp_steps_law.specs.Told.{AreTold, EachIsTold, IsToldBy}
+use Rattle.pp_states_law.proofs.Told.{told_asked, told_next}
+use Rattle.pp_states_law.specs.Steps.{ShowsSteps, whole}
+use Rattle.pp_states_law.specs.Told.{AreTold, EachIsTold, IsToldBy}
 use Rattle.pp_answers_law.specs.Answers.{IsAnswered}
 
 -- ---- its head came, and its body belongs there

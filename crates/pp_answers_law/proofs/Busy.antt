@@ -23,9 +23,9 @@ use Rattle.pp_seats_law.proofs.Entries.{exchanges}
 use Rattle.pp_seats_law.specs.Exchanges.{ShowsBound, ShowsExchange}
 use Rattle.pp_state.specs.Ends.{Parts}
 use Rattle.pp_state.specs.Pins.{busy_row, busy_rows, exchanges_of}
-use Rattle.pp_steps_law.proofs.Told.{told_of}
-use Rattle.pp_steps_law.specs.Steps.{ShowsSteps}
-use Rattle.pp_steps_law.specs.Told.{IsToldBy}
+use Rattle.pp_states_law.proofs.Told.{told_of}
+use Rattle.pp_states_law.specs.Steps.{ShowsSteps}
+use Rattle.pp_states_law.specs.Told.{IsToldBy}
 
 -- ---- all of them
 

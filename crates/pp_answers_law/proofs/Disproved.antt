@@ -2,7 +2,7 @@
 use Rattle.std.proofs.Common.{◌≡◌, refl, sym, subst, ap, ap₂, ◌∙◌, ℕ, Bool, true, false, not, ◌==◌, ◌&&◌, ◌||◌, cond, find, List, [], ◌∷◌, ◌++◌, Some, None, Option, arith, nat_lt}
 use Rattle.std.proofs.lemmas.Bool.Decides.{nat_tests}
 use Rattle.std.specs.List.{list_any}
-use Rattle.std.specs.Prelude.{option_and_then, option_map, slice_get}
+use Rattle.std.specs.Prelude.{option_and_then, slice_get}
 use Rattle.pp_cache_law.proofs.Alike.{versions_of}
 use Rattle.pp_cache_law.proofs.Numbers.{true_false}
 use Rattle.pp_client.specs.Requests.{Front as Heading, Nothing, Begun as More, Asked as IsAsked, Refused, current_of}
@@ -18,9 +18,10 @@ use Rattle.pp_law.specs.Connections.{is_client}
 use Rattle.pp_law.specs.Lists.{Bytes, is_some_with, is_this}
 use Rattle.pp_law.specs.OwnHeads.{key_of, known_version as law_known}
 use Rattle.pp_law.specs.Requests.{Front, NoHeadYet, NoHead, IsRequest, Parsed, body_len_by, front_of, goes_alone, is_asked_once, parsed_of}
+use Rattle.pp_law.specs.Responses.{asks_head}
 use Rattle.pp_law.specs.Stages.{is_through}
-use Rattle.pp_law.specs.State.{State, Client, Exchange, Instance as Known}
-use Rattle.pp_law.specs.Table.{clear, row}
+use Rattle.pp_law.specs.State.{State, Aim, Through, Own, Filling, Client, Exchange}
+use Rattle.pp_law.specs.Table.{clear}
 use Rattle.pp_law.specs.ThroughHeads.{disproved as law_disproved, disproves as law_disproves, reads as law_reads}
 use Rattle.pp_peers.specs.declared.peers.Peer.{Peer}
 use Rattle.pp_pipe.specs.Authentication.{binds_connection}
@@ -34,10 +35,10 @@ use Rattle.pp_seats_law.specs.Exchanges.{ShowsExchange}
 use Rattle.pp_seats_law.specs.Seats.{ShowsOpen}
 use Rattle.pp_state.specs.Ends.{Parts, cleared_row, known_version, numbers_of, seat_for, version_at}
 use Rattle.pp_answers.specs.ThroughHeads.{disproved, gets, is_disproved, is_disproved_by, is_get_in, is_get_of, reads}
-use Rattle.pp_steps_law.proofs.Charged.{same_entry}
-use Rattle.pp_steps_law.proofs.Places.{HasPlace, HasSeat, at_place, has_none, has_place, has_seat}
-use Rattle.pp_steps_law.specs.Charges.{IsFor}
-use Rattle.pp_steps_law.specs.Steps.{ShowsSteps}
+use Rattle.pp_states_law.proofs.Charged.{same_entry}
+use Rattle.pp_states_law.proofs.Places.{HasPlace, HasSeat, at_place, has_none, has_place, has_seat}
+use Rattle.pp_states_law.specs.Charges.{IsFor}
+use Rattle.pp_states_law.specs.Steps.{ShowsSteps}
 use Rattle.pp_valid.specs.declared.version.Version.{Version}
 use Rattle.pp_answers_law.specs.Answers.{Asks, IsAnswered, Stands}
 use Rattle.pp_answers_law.specs.Disproving.{DisprovedAreTheLaws, GoesWithClient, HasClient}
@@ -55,7 +56,7 @@ get_in (IsAsked head fault) r is =
     ap (λ (q : Parsed). is_get q.head.method) same
 get_in (Refused status) r is = absurd (let both : NoHead status ≡ IsRequest r = is in cc both)
 
-still_now : (f now : Front) (r : Parsed) → f ≡ IsRequest r → StandsStill f now → now ≡ IsRequest r
+pub still_now : (f now : Front) (r : Parsed) → f ≡ IsRequest r → StandsStill f now → now ≡ IsRequest r
 still_now f now r is still = subst (λ (g : Front). StandsStill g now) is still
 
 get_of : (number : ℕ → ℕ) (name : Bytes) (seat : Seat) (c : Client) (e : Exchange) → ShowsOpen number name [] seat c → Asks e c → is_get_in (current_of seat.client.heard) ≡ is_get e.head.method
@@ -67,7 +68,7 @@ get_of number name seat c e shows asks =
 swapped : (m n : ℕ) → (m == n) ≡ (n == m)
 swapped m n = grind (arith, nat_tests)
 
-any_there : (n : ℕ) (cs : List Client) (c : Client) → find (is_client n) cs ≡ Some c → list_any (λ d. is_this d.number (Some n) && true) cs ≡ true
+pub any_there : (n : ℕ) (cs : List Client) (c : Client) → find (is_client n) cs ≡ Some c → list_any (λ d. is_this d.number (Some n) && true) cs ≡ true
 any_there n [] c found = absurd (none_some c found)
 any_there n (d ∷ cs) c found = by (is_client n d) refl found (λ e. any_there n cs c e)
   where
@@ -119,10 +120,18 @@ plain_reads : (head : AskedHead) → goes_alone head ≡ false → (is_get head.
 plain_reads head alone =
     not_once (is_get head.method || is_head head.method) (nat_lt 0 (body_len_by (request_rule_of head.fields))) (left_false (is_asked_once head) (binds_connection head.fields) alone)
 
+through_asks : (e : Exchange) → is_through e ≡ true → asks_head e ≡ is_head e.head.method
+through_asks e through = by e.aim through
+  where
+    by : (aim : Aim) → (elim aim as (λ t. Bool) [ Through ↦ true | Own ↦ false | Filling v from to ↦ false ]) ≡ true → (elim aim as (λ t. Bool) [ Through ↦ is_head e.head.method | Own ↦ false | Filling v from to ↦ false ]) ≡ is_head e.head.method
+    by Through is = refl
+    by Own is = absurd (true_false (sym is))
+    by (Filling v from to) is = absurd (true_false (sym is))
+
 reads_same : (number : ℕ → ℕ) (name : Bytes) (l : Leaving) (peers : List Peer) (p : Parts) (s : State) → ShowsSteps number name l peers p s → (n : ℕ) (x : Entry) (e : Exchange) → IsAnswered n p s x e → is_through e ≡ true → IsFor s e Stands → IsFor s e (Asks e)
     → GoesWithClient s e → reads x.exchange x.errand p ≡ law_reads e
 reads_same number name l peers p s shows n x e answered through stands asks with =
-    ap₂ (λ (h b : Bool). h || not b || gets x.exchange p) (shown.asks_head through) (ap₂ (λ (a b : Bool). a || b) shown.is_asked_once shown.binds)
+    ap₂ (λ (h b : Bool). h || not b || gets x.exchange p) (shown.asks_head ∙ through_asks e through) (ap₂ (λ (a b : Bool). a || b) shown.is_asked_once shown.binds)
     ∙ reads_by (is_head e.head.method) (is_get e.head.method) (goes_alone e.head) (gets x.exchange p) (plain_reads e.head) (λ alone. gets_same number name l peers p s shows x.exchange e shown.asker stands asks (with alone))
   where
     shown : ShowsExchange number x e

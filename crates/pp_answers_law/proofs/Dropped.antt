@@ -31,10 +31,10 @@ use Rattle.pp_seats_law.specs.Words.{ShowsMaybePassed}
 use Rattle.pp_state.specs.Bodies.{body_by, is_passed, is_passed_in, seat_in}
 use Rattle.pp_state.specs.Ends.{Parts, bound_by, changed_at, numbers_of, on_seat_where, place_of, seat_for, told, told_to, unusable}
 use Rattle.pp_answers.specs.FinalHeads.{noted_body}
-use Rattle.pp_steps_law.proofs.Charged.{number_is, same_entry}
-use Rattle.pp_steps_law.proofs.Places.{HasSeat, at_place, has_seat, numbers_set}
-use Rattle.pp_steps_law.specs.Charges.{IsFor, IsThere}
-use Rattle.pp_steps_law.specs.Steps.{ShowsSteps}
+use Rattle.pp_states_law.proofs.Charged.{number_is, same_entry}
+use Rattle.pp_states_law.proofs.Places.{HasSeat, at_place, has_seat, numbers_set}
+use Rattle.pp_states_law.specs.Charges.{IsFor, IsThere}
+use Rattle.pp_states_law.specs.Steps.{ShowsSteps}
 use Rattle.pp_answers_law.specs.Answers.{DropsAreTheLaws, IsAnswered, Stands, TellsAs}
 use Rattle.pp_answers_law.proofs.Bodies.{get_set, headed, heads, noted_behind, on_seats, with_flow}
 use Rattle.pp_answers_law.proofs.Told.{tells, told_id}

@@ -37,10 +37,10 @@ use Rattle.pp_state.specs.Ends.{Parts, bound_by, on_seat_where, seat_for, told, 
 use Rattle.pp_answers.specs.FinalHeads.{noted_body}
 use Rattle.pp_answers.specs.OwnHeads.{span_to_come as span_coming}
 use Rattle.pp_answers.specs.Rows.{accounted, joining, settled_on, span_for}
-use Rattle.pp_steps_law.proofs.Charged.{same_entry}
-use Rattle.pp_steps_law.specs.Charges.{IsFor}
-use Rattle.pp_steps_law.specs.Steps.{ShowsSteps}
-use Rattle.pp_steps_law.specs.Told.{IsTold}
+use Rattle.pp_states_law.proofs.Charged.{same_entry}
+use Rattle.pp_states_law.specs.Charges.{IsFor}
+use Rattle.pp_states_law.specs.Steps.{ShowsSteps}
+use Rattle.pp_states_law.specs.Told.{IsTold}
 use Rattle.pp_text.specs.Fields.{has_field}
 use Rattle.pp_valid.specs.declared.version.Version.{Version}
 use Rattle.pp_world.specs.declared.access.Source.{Source}

@@ -40,10 +40,10 @@ use Rattle.pp_state.specs.Ends.{Parts}
 use Rattle.pp_answers.specs.FinalHeads.{noted_body}
 use Rattle.pp_state.specs.Pins.{busy_rows}
 use Rattle.pp_answers.specs.Rows.{in_memory, not_refused, settled_on}
-use Rattle.pp_steps_law.proofs.Charged.{same_entry}
-use Rattle.pp_steps_law.proofs.Told.{there_before}
-use Rattle.pp_steps_law.specs.Steps.{ShowsSteps, whole}
-use Rattle.pp_steps_law.specs.Told.{EachIsTold, IsTold, IsToldBy}
+use Rattle.pp_states_law.proofs.Charged.{same_entry}
+use Rattle.pp_states_law.proofs.Told.{there_before}
+use Rattle.pp_states_law.specs.Steps.{ShowsSteps, whole}
+use Rattle.pp_states_law.specs.Told.{EachIsTold, IsTold, IsToldBy}
 use Rattle.pp_text.specs.Fields.{Field}
 use Rattle.pp_valid.specs.declared.version.Version.{Version}
 use Rattle.pp_answers_law.specs.Making.{MakesAreTheLaws, MayMake, roomed}
@@ -151,7 +151,7 @@ former_apart slot key is i vacant found = by (slot == i.slot) refl
     by false isnt = refl
     by true is_it = absurd (true_false (sym (same_test i.slot slot (sym (is_same slot i.slot is_it))) ∙ none_passes (is_in_slot slot) (is_row_of key) is i vacant found))
 
-stands_in : (is : List Instance) (key : List ℕ) (new : Instance) → in_slot new.slot is ≡ None → in_slot new.slot (retired_from (row_of key is) (at_end is new)) ≡ Some new
+pub stands_in : (is : List Instance) (key : List ℕ) (new : Instance) → in_slot new.slot is ≡ None → in_slot new.slot (retired_from (row_of key is) (at_end is new)) ≡ Some new
 stands_in is key new vacant = by (row_of key is) refl
   where
     at : (i : Instance) (b : Bool) → (new.slot == i.slot) ≡ false → in_slot new.slot (cond b (without_slot i.slot (at_end is new)) (changed_in i.slot retired (at_end is new))) ≡ Some new

@@ -24,8 +24,8 @@ use Rattle.pp_seats_law.specs.Clients.{AreShown}
 use Rattle.pp_seats_law.specs.Exchanges.{Binding, ShowsBody, ShowsExchange}
 use Rattle.pp_seats_law.specs.Replies.{ShowsBrought, ShowsFate, ShowsStage, source_number}
 use Rattle.pp_seats_law.specs.Seats.{ShowsOpen}
-use Rattle.pp_steps_law.proofs.Told.{told_of}
-use Rattle.pp_steps_law.specs.Told.{AreTold, EachIsTold, IsToldBy}
+use Rattle.pp_states_law.proofs.Told.{told_of}
+use Rattle.pp_states_law.specs.Told.{AreTold, EachIsTold, IsToldBy}
 use Rattle.pp_answers_law.specs.Making.{AreGivenSeats, IsGiven, IsGivenBrought, IsGivenSeat, IsGivenSource}
 
 off : (k life : ℕ) → k < life → (k == life) ≡ false

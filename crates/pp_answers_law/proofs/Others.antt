@@ -14,9 +14,9 @@ use Rattle.pp_seats.specs.declared.seat.Brought.TheVariants.{TooWide as IsTooWid
 use Rattle.pp_state.specs.Ends.{Parts, bound_by, cleared_row, told_to}
 use Rattle.pp_answers.specs.FinalHeads.{cleared_by, noted_body, other_part, relayed, relayed_or_widened, shared_part}
 use Rattle.pp_answers.specs.OwnHeads.{clears_row, is_private_part}
-use Rattle.pp_steps_law.proofs.Charged.{same_entry}
-use Rattle.pp_steps_law.specs.Charges.{IsFor}
-use Rattle.pp_steps_law.specs.Steps.{ShowsSteps}
+use Rattle.pp_states_law.proofs.Charged.{same_entry}
+use Rattle.pp_states_law.specs.Charges.{IsFor}
+use Rattle.pp_states_law.specs.Steps.{ShowsSteps}
 use Rattle.pp_answers_law.specs.Answers.{Asks, IsAnswered, Stands}
 use Rattle.pp_answers_law.specs.Passing.{OthersAreTheLaws, PartsAreTheLaws}
 use Rattle.pp_answers_law.proofs.Dropped.{IsRead, read_now, there_too, told_dropped}

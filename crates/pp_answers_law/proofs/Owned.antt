@@ -1,5 +1,5 @@
 -- The head of a response to a Fetch or Validate, as the law has it.
-use Rattle.std.proofs.Common.{◌≡◌, ◌≤◌, refl, sym, subst, ap, ◌∙◌, ℕ, Bool, true, false, ◌==◌, cond, length, List, [], ◌∷◌, Some, None, Option, nat_le, nat_lt, arith}
+use Rattle.std.proofs.Common.{◌≡◌, ◌≤◌, refl, sym, subst, ap, ◌∙◌, ℕ, ◌+◌, Bool, true, false, ◌==◌, cond, length, List, [], ◌∷◌, Some, None, Option, nat_le, nat_lt, arith}
 use Rattle.std.proofs.lemmas.Bool.Decides.{nat_tests}
 use Rattle.std.specs.Prelude.{count_by, option_and_then, option_map}
 use Rattle.pp_cache.specs.Notes.{noted_by, unnoted}
@@ -32,8 +32,8 @@ use Rattle.pp_state.specs.Pins.{busy_rows, forgotten_row, idle_row, with_room as
 use Rattle.pp_answers.specs.Rows.{IsNew, MakesRow, MakesRowOf, Settles, SettlesRow, may_join, not_modified, refused_row, refusing, refusing_key, renewed, row_or_none, with_room_for}
 use Rattle.pp_state.specs.Known.{row_for, row_in}
 use Rattle.pp_state.specs.declared.state.State.{State as Turn}
-use Rattle.pp_steps_law.proofs.Charged.{same_entry}
-use Rattle.pp_steps_law.specs.Steps.{ShowsSteps}
+use Rattle.pp_states_law.proofs.Charged.{same_entry}
+use Rattle.pp_states_law.specs.Steps.{ShowsSteps}
 use Rattle.pp_valid.specs.declared.version.Version.{Version}
 use Rattle.pp_answers_law.specs.Making.{roomed}
 use Rattle.pp_answers_law.specs.Owns.{IsAtHead, IsShown, OwnHeadsAreTheLaws}
@@ -43,6 +43,9 @@ use Rattle.pp_answers_law.proofs.Made.{makes, room_lives}
 use Rattle.pp_answers_law.proofs.Others.{others}
 use Rattle.pp_answers_law.proofs.Renewed.{known_is, none_known, not_modifieds, renewals}
 use Rattle.pp_answers_law.proofs.Useless.{flow_kept, key_is}
+use Rattle.pp_answers_law.proofs.Carried.{numbers_stay, one_more}
+use Rattle.pp_answers_law.proofs.QuietAnswers.{Any, row_made_lives}
+use Rattle.pp_answers_law.proofs.QuietHeads.{q_other, q_renewed, q_unmodified}
 
 -- ---- memory was refused for it, and that is noted
 
@@ -91,20 +94,23 @@ module _ (number : ℕ → ℕ) (name : Bytes) (l : Leaving) (peers : List Peer)
   abbrev anew : Version → State
   anew v = settle_on e head v (make_row (key_of e) v (kept_of head.fields (law_times e head s)) (law_times e head s) s)
 
-  made_one : (v : Version) (o : Option ObjectId) → IsNew o (roomed (key_of e) old).cache → new ≡ row_or_none x.exchange x.errand head v s.clock (key_of e) o (roomed (key_of e) old) → IsShown name l peers (noted_body n new) (anew v)
+  made_one : (v : Version) (o : Option ObjectId) → IsNew o (roomed (key_of e) old).cache → new ≡ row_or_none x.exchange x.errand head v s.clock (key_of e) o (roomed (key_of e) old) → IsShown number t.cache.lives s.next_instance name l peers (noted_body n new) (anew v)
   made_one v None is_new becomes =
       absurd (some_noted (key_of e) at.key (sym (refused_noted x.exchange (key_of e) (roomed (key_of e) old) key_there at.shows.refused) ∙ sym (ap (λ (q : Parts). q.refused) becomes) ∙ given))
   made_one v (Some id) is_new becomes = record {
     number = numbered old.cache.lives s.next_instance number;
+    keeps =
+        one_more t.cache.lives new.cache.lives s.next_instance number
+        (ap (λ (q : Parts). q.cache.lives) becomes ∙ row_made_lives x.exchange x.errand head v s.clock (key_of e) id (roomed (key_of e) old) ∙ ap (λ (k : ℕ). k + 1) (room_lives (row_of (key_of e) old.cache.instances) (busy_rows old.flow) old.cache));
     shows =
         subst (λ (q : Parts). ShowsSteps (numbered old.cache.lives s.next_instance number) name l peers (noted_body n q) (anew v)) (sym becomes)
         (makes number name l peers old s at.shows n x e head v id at.answered at.stands at.may is_new.0 (is_new.1 ∙ room_lives (row_of (key_of e) old.cache.instances) (busy_rows old.flow) old.cache));
   }
 
-  makes_one : (v : Version) → MakesRow x.exchange x.errand head v t.now (key_of e) (roomed (key_of e) old) new → IsShown name l peers (noted_body n new) (anew v)
+  makes_one : (v : Version) → MakesRow x.exchange x.errand head v t.now (key_of e) (roomed (key_of e) old) new → IsShown number t.cache.lives s.next_instance name l peers (noted_body n new) (anew v)
   makes_one v row = made_one v row.made row.is_new (row.becomes ∙ ap (λ (clock : ℕ). row_or_none x.exchange x.errand head v clock (key_of e) row.made (roomed (key_of e) old)) at.clock)
 
-  makes_of : (v : Version) (o : Option (List ℕ)) (q : Parts) → o ≡ Some (key_of e) → q ≡ roomed (key_of e) old → MakesRowOf x.exchange x.errand head v t.now o q new → IsShown name l peers (noted_body n new) (anew v)
+  makes_of : (v : Version) (o : Option (List ℕ)) (q : Parts) → o ≡ Some (key_of e) → q ≡ roomed (key_of e) old → MakesRowOf x.exchange x.errand head v t.now o q new → IsShown number t.cache.lives s.next_instance name l peers (noted_body n new) (anew v)
   makes_of v o q is room row =
       makes_one v
       (subst (λ (r : Parts). MakesRow x.exchange x.errand head v t.now (key_of e) r new) room
@@ -116,15 +122,16 @@ module _ (number : ℕ → ℕ) (name : Bytes) (l : Leaving) (peers : List Peer)
   settled_if v b = elim b as (λ u. State) [ true ↦ settle_known e head v s | false ↦ anew v ]
 
   settles_row : (v : Version) (i : Instance) (y : Known) → HasRow old s e i y → i.version ≡ y.version → SettlesRow x.exchange x.errand head v t.now (may_join x.exchange.aim x.errand.kind head v i.version) (id_of i) old new
-      → IsShown name l peers (noted_body n new) (settled_if v (law_may_join e head v y.version))
+      → IsShown number t.cache.lives s.next_instance name l peers (noted_body n new) (settled_if v (law_may_join e head v y.version))
   settles_row v i y has version row = by (law_may_join e head v y.version) (subst (λ (b : Bool). SettlesRow x.exchange x.errand head v t.now b (id_of i) old new) same row)
     where
       same : may_join x.exchange.aim x.errand.kind head v i.version ≡ law_may_join e head v y.version
       same = ap (λ (w : Version). may_join x.exchange.aim x.errand.kind head v w) version ∙ joins_same number x e head shown v y.version
 
-      by : (b : Bool) → SettlesRow x.exchange x.errand head v t.now b (id_of i) old new → IsShown name l peers (noted_body n new) (settled_if v b)
+      by : (b : Bool) → SettlesRow x.exchange x.errand head v t.now b (id_of i) old new → IsShown number t.cache.lives s.next_instance name l peers (noted_body n new) (settled_if v b)
       by true becomes = record {
         number = number;
+        keeps = numbers_stay number t.cache.lives new.cache.lives s.next_instance (ap (λ (q : Parts). q.cache.lives) becomes ∙ (q_renewed Any x.exchange x.errand head v (id_of i) t.now old (λ there. tt)).lives);
         shows =
             subst (λ (q : Parts). ShowsSteps number name l peers (noted_body n q) (settle_known e head v s)) (sym (becomes ∙ ap (λ (clock : ℕ). renewed x.exchange x.errand head v (id_of i) clock old) at.clock))
             (renewals number name l peers old s at.shows n x e head v i y at.answered at.stands has);
@@ -135,14 +142,14 @@ module _ (number : ℕ → ℕ) (name : Bytes) (l : Leaving) (peers : List Peer)
   by_known v o = settled_if v (is_some_with (law_may_join e head v) o)
 
   settles : (v : Version) (u : Option Instance) (w : Option Known) → row_of (key_of e) old.cache.instances ≡ u → row s (key_of e) ≡ w → AreBoth (ShowsInstance number old.cache s) u w
-      → Settles x.exchange x.errand head v t.now (option_map (λ (i : Instance). (id_of i, i.version)) u) (parts (with_room_for (option_map (λ (i : Instance). (id_of i, i.version)) u) t)) new → IsShown name l peers (noted_body n new) (by_known v (known_version s (key_of e)))
+      → Settles x.exchange x.errand head v t.now (option_map (λ (i : Instance). (id_of i, i.version)) u) (parts (with_room_for (option_map (λ (i : Instance). (id_of i, i.version)) u) t)) new → IsShown number t.cache.lives s.next_instance name l peers (noted_body n new) (by_known v (known_version s (key_of e)))
   settles v None None a b both row =
-      subst (λ (o : Option Version). IsShown name l peers (noted_body n new) (by_known v o)) (sym (none_known s (key_of e) b))
+      subst (λ (o : Option Version). IsShown number t.cache.lives s.next_instance name l peers (noted_body n new) (by_known v o)) (sym (none_known s (key_of e) b))
       (makes_of v (key_in_flow x.exchange.number (parts (turn_with_room t)).flow) (parts (turn_with_room t)) (ap (λ (q : Parts). key_in_flow x.exchange.number q.flow) (turn_roomed t (key_of e) a) ∙ key_there) (turn_roomed t (key_of e) a) row)
   settles v None (Some y) a b both row = absurd both
   settles v (Some i) None a b both row = absurd both
   settles v (Some i) (Some y) a b both row =
-      subst (λ (o : Option Version). IsShown name l peers (noted_body n new) (by_known v o)) (sym (known_is s (key_of e) y b)) (settles_row v i y (record { here = a; there = b }) both.version row)
+      subst (λ (o : Option Version). IsShown number t.cache.lives s.next_instance name l peers (noted_body n new) (by_known v o)) (sym (known_is s (key_of e) y b)) (settles_row v i y (record { here = a; there = b }) both.version row)
 
   row_is : row_for x.exchange.number old ≡ option_map (λ (i : Instance). (id_of i, i.version)) (row_of (key_of e) old.cache.instances)
   row_is = ap (λ (o : Option (List ℕ)). option_and_then (λ key. row_in key old.cache) o) key_there
@@ -151,23 +158,25 @@ module _ (number : ℕ → ℕ) (name : Bytes) (l : Leaving) (peers : List Peer)
   unfolding settle
   settle_is v = refl
 
-  pub settled : (v : Version) → Settles x.exchange x.errand head v t.now (row_for x.exchange.number old) (parts (with_room_for (row_for x.exchange.number old) t)) new → IsShown name l peers (noted_body n new) (settle e head v s)
+  pub settled : (v : Version) → Settles x.exchange x.errand head v t.now (row_for x.exchange.number old) (parts (with_room_for (row_for x.exchange.number old) t)) new → IsShown number t.cache.lives s.next_instance name l peers (noted_body n new) (settle e head v s)
   settled v taken =
-      subst (λ (u : State). IsShown name l peers (noted_body n new) u) (sym (settle_is v))
+      subst (λ (u : State). IsShown number t.cache.lives s.next_instance name l peers (noted_body n new) u) (sym (settle_is v))
       (settles v (row_of (key_of e) old.cache.instances) (row s (key_of e)) refl refl (rows_of number old.cache s at.shows.shows.table.table (key_of e))
       (subst (λ (o : Option (ObjectId × Version)). Settles x.exchange x.errand head v t.now o (parts (with_room_for o t)) new) row_is taken))
 
   -- ---- without a version
 
-  without_by : (b : Bool) → new ≡ without_version b x.exchange x.errand head rule t → IsShown name l peers (noted_body n new) (elim b as (λ u. State) [ true ↦ law_not_modified e head s | false ↦ law_other_head e head rule s ])
+  without_by : (b : Bool) → new ≡ without_version b x.exchange x.errand head rule t → IsShown number t.cache.lives s.next_instance name l peers (noted_body n new) (elim b as (λ u. State) [ true ↦ law_not_modified e head s | false ↦ law_other_head e head rule s ])
   without_by true becomes = record {
     number = number;
+    keeps = numbers_stay number t.cache.lives new.cache.lives s.next_instance (ap (λ (q : Parts). q.cache.lives) becomes ∙ (q_unmodified Any x.exchange x.errand head t.now old (λ one there. tt)).lives);
     shows =
         subst (λ (q : Parts). ShowsSteps number name l peers (noted_body n q) (law_not_modified e head s)) (sym (becomes ∙ ap (λ (clock : ℕ). not_modified x.exchange x.errand head clock old) at.clock))
         (not_modifieds number name l peers old s at.shows n x e head at.answered at.stands);
   }
   without_by false becomes = record {
     number = number;
+    keeps = numbers_stay number t.cache.lives new.cache.lives s.next_instance (ap (λ (q : Parts). q.cache.lives) becomes ∙ (q_other Any t.name.items x.exchange x.errand head rule old).lives);
     shows =
         subst (λ (q : Parts). ShowsSteps number name l peers (noted_body n q) (law_other_head e head rule s)) (sym (becomes ∙ ap (λ (own : List ℕ). other_head own x.exchange x.errand head rule old) at.own_name))
         (others number name l peers old s at.shows n x e head rule at.answered at.stands at.asks);
@@ -176,7 +185,7 @@ module _ (number : ℕ → ℕ) (name : Bytes) (l : Leaving) (peers : List Peer)
   abbrev own_by : Option Version → State
   own_by o = elim o as (λ u. State) [ Some v ↦ settle e head v s | None ↦ elim (head.status == 304) as (λ u. State) [ true ↦ law_not_modified e head s | false ↦ law_other_head e head rule s ] ]
 
-  takes : (o : Option Version) → TakesOwn x.exchange x.errand head rule o t new → IsShown name l peers (noted_body n new) (own_by o)
+  takes : (o : Option Version) → TakesOwn x.exchange x.errand head rule o t new → IsShown number t.cache.lives s.next_instance name l peers (noted_body n new) (own_by o)
   takes None becomes = without_by (head.status == 304) becomes
   takes (Some v) row = settled v row
 
@@ -184,9 +193,9 @@ module _ (number : ℕ → ℕ) (name : Bytes) (l : Leaving) (peers : List Peer)
   unfolding own_head
   own_is = refl
 
-  pub own : TakesOwn x.exchange x.errand head rule (version_in x.errand head) t new → IsShown name l peers (noted_body n new) (own_head e head rule s)
+  pub own : TakesOwn x.exchange x.errand head rule (version_in x.errand head) t new → IsShown number t.cache.lives s.next_instance name l peers (noted_body n new) (own_head e head rule s)
   own taken =
-      subst (λ (u : State). IsShown name l peers (noted_body n new) u) (sym own_is)
+      subst (λ (u : State). IsShown number t.cache.lives s.next_instance name l peers (noted_body n new) u) (sym own_is)
       (takes (law_version_in e head) (subst (λ (o : Option Version). TakesOwn x.exchange x.errand head rule o t new) (versions number x e head shown) taken))
 
 pub owns : OwnHeadsAreTheLaws

@@ -1,41 +1,35 @@
 -- The head of a response that is passed, with the rows of the places that it names, as the law has it.
-use Rattle.std.proofs.Common.{◌≡◌, ◌≤◌, ◌+◌, refl, sym, subst, ap, ap₂, ◌∙◌, ℕ, Bool, true, false, not, ◌&&◌, cond, find, length, take, codes, List, [], ◌∷◌, ◌++◌, append_assoc, length-append, Some, None, Option, Ok, arith}
+use Rattle.std.proofs.Common.{◌≡◌, ◌+◌, refl, sym, subst, ap, ◌∙◌, ℕ, Bool, true, false, not, length, take, codes, List, [], ◌∷◌, ◌++◌, append_assoc, length-append, Some, None, Option, Ok, arith}
 use Rattle.std.proofs.Math.Seq.{take-append_seam}
-use Rattle.std.specs.Prelude.{bytes_eq}
-use Rattle.pp_cache.specs.Named.{key_named, site_of}
-use Rattle.pp_flow.specs.Entries.{is_number}
+use Rattle.pp_cache.specs.Named.{site_of}
 use Rattle.pp_flow.specs.declared.entry.Entry.{Entry}
 use Rattle.pp_flow_law.specs.Tables.{Leaving}
-use Rattle.pp_framing.specs.declared.body.BodyRule.{BodyRule}
 use Rattle.pp_head.specs.Response.{Response}
 use Rattle.pp_heads_law.proofs.Ruled.{invalidated as invalidates_same}
 use Rattle.pp_law.specs.Lists.{Bytes}
 use Rattle.pp_law.specs.OwnHeads.{key_of, relay_head}
 use Rattle.pp_law.specs.State.{State, Exchange}
 use Rattle.pp_law.specs.Table.{clear}
-use Rattle.pp_law.specs.ThroughHeads.{clear_each, clear_named, disproved as law_disproved, invalidated as law_invalidated, invalidates as law_invalidates, is_same_host, key_named as law_key_named, places_named as law_places, through_head}
+use Rattle.pp_law.specs.ThroughHeads.{clear_each, clear_named, disproved as law_disproved, invalidated as law_invalidated, invalidates as law_invalidates, is_same_host, key_named as law_key_named, places_named as law_places}
 use Rattle.pp_peers.specs.declared.peers.Peer.{Peer}
 use Rattle.pp_seats_law.specs.Exchanges.{ShowsExchange}
 use Rattle.pp_state.specs.Astray.{astray_where}
-use Rattle.pp_state.specs.Ends.{Parts, cleared_key, cleared_of, cleared_row}
-use Rattle.pp_answers.specs.FinalHeads.{PassesHead, noted_body, relayed}
+use Rattle.pp_state.specs.Ends.{Parts, cleared_key, cleared_of}
+use Rattle.pp_answers.specs.FinalHeads.{noted_body, relayed}
 use Rattle.pp_state.specs.Keys.{key_of as key_in_flow}
-use Rattle.pp_answers.specs.ThroughHeads.{ClearsEach, InvalidatesIf, InvalidatesRows, disproved, invalidates, named_as, places_named}
-use Rattle.pp_steps_law.proofs.Charged.{same_entry}
-use Rattle.pp_steps_law.specs.Charges.{IsFor}
-use Rattle.pp_steps_law.specs.Steps.{ShowsSteps}
+use Rattle.pp_answers.specs.ThroughHeads.{ClearsEach, InvalidatesIf, InvalidatesRows, disproved, named_as, places_named}
+use Rattle.pp_states_law.proofs.Charged.{same_entry}
+use Rattle.pp_states_law.specs.Steps.{ShowsSteps}
 use Rattle.pp_target.specs.Key.{Key, key_at, place_of, port_text, text_of}
-use Rattle.pp_answers_law.specs.Answers.{IsAnswered}
 use Rattle.pp_answers_law.specs.Naming.{named_at}
 use Rattle.pp_answers_law.specs.Outdates.{AreShort, IsKeyed, PassedHeadsAreTheLaws, WereRead, WereReadIf, WereReadOf}
-use Rattle.pp_answers_law.specs.Throughs.{IsPassed}
 use Rattle.pp_answers_law.proofs.Dropped.{there_too}
 use Rattle.pp_answers_law.proofs.Others.{asks_cleared}
 use Rattle.pp_answers_law.proofs.Relayed.{relays}
 use Rattle.pp_answers_law.proofs.Sites.{names_same}
 use Rattle.pp_answers_law.proofs.Standing.{stands_cleared}
 use Rattle.pp_answers_law.proofs.Through.{IsLeft, client_cleared, disproved_left, law_invalidated_if, law_invalidated_is, through_is}
-use Rattle.pp_answers_law.proofs.Useless.{exchanges_kept, key_cleared, key_is, row_cleared}
+use Rattle.pp_answers_law.proofs.Useless.{exchanges_kept, key_cleared, key_is}
 
 -- ---- one more is cleared
 
@@ -51,7 +45,7 @@ left_cleared number name l peers p s n x e key left = record {
   };
 }
 
-abbrev law_cleared_of : Option Bytes → State → State
+abbrev pub law_cleared_of : Option Bytes → State → State
 law_cleared_of o s = elim o as (λ t. State) [ None ↦ s | Some key ↦ clear key s ]
 
 left_of : (number : ℕ → ℕ) (name : Bytes) (l : Leaving) (peers : List Peer) (p : Parts) (s : State) (n : ℕ) (x : Entry) (e : Exchange) (o : Option Bytes) → IsLeft number name l peers p s n x e → IsLeft number name l peers (cleared_of o p) (law_cleared_of o s) n x e
@@ -60,7 +54,7 @@ left_of number name l peers p s n x e (Some key) left = left_cleared number name
 
 -- ---- each that is named
 
-named_is : (key : Key) (text : Bytes) (s : State) → clear_named key text s ≡ law_cleared_of (named_at key text) s
+pub named_is : (key : Key) (text : Bytes) (s : State) → clear_named key text s ≡ law_cleared_of (named_at key text) s
 unfolding clear_named
 named_is key text s = by (law_key_named key text)
   where
@@ -73,11 +67,11 @@ named_is key text s = by (law_key_named key text)
     by None = refl
     by (Some named) = at named (is_same_host named key)
 
-each_first : (key : Key) (text : Bytes) (texts : List Bytes) (s : State) → clear_each key (text ∷ texts) s ≡ clear_each key texts (clear_named key text s)
+pub each_first : (key : Key) (text : Bytes) (texts : List Bytes) (s : State) → clear_each key (text ∷ texts) s ≡ clear_each key texts (clear_named key text s)
 unfolding clear_each
 each_first key text texts s = refl
 
-each_none : (key : Key) (s : State) → clear_each key [] s ≡ s
+pub each_none : (key : Key) (s : State) → clear_each key [] s ≡ s
 unfolding clear_each
 each_none key s = refl
 
@@ -94,7 +88,7 @@ each_left number name l peers n x e target (text ∷ texts) p new s key short cl
 
 -- ---- its site
 
-site_is : (key : Key) → take (place_of key).path (text_of key) ≡ site_of key
+pub site_is : (key : Key) → take (place_of key).path (text_of key) ≡ site_of key
 site_is key =
     ap (λ (m : ℕ). take m (text_of key)) len
     ∙ ap (λ (t : List ℕ). take (length (site_of key)) t) (sym (append_assoc (codes "http://") (key.host ++ port_text key.port) key.path ∙ ap (λ (t : List ℕ). codes "http://" ++ t) (append_assoc key.host (port_text key.port) key.path)))
@@ -106,11 +100,14 @@ site_is key =
     len : (place_of key).path ≡ length (site_of key)
     len = omega (arith, hosts)
 
-invalidated_with : (number : ℕ → ℕ) (name : Bytes) (l : Leaving) (peers : List Peer) (p between : Parts) (s : State) (n : ℕ) (x : Entry) (e : Exchange) (head : Response) (b : Bool) → IsLeft number name l peers p s n x e → IsKeyed x e head
+pub invalidated_with : (number : ℕ → ℕ) (name : Bytes) (l : Leaving) (peers : List Peer) (p between : Parts) (s : State) (n : ℕ) (x : Entry) (e : Exchange) (head : Response) (b : Bool) → IsLeft number name l peers p s n x e → (b ≡ true → IsKeyed x e head)
     → (it : InvalidatesIf b (key_in_flow x.exchange.number p.flow) x.errand.place.path head p between) → WereReadIf b (key_in_flow x.exchange.number p.flow) x.errand.place.path head p between it → IsLeft number name l peers between (law_invalidated_if e head s b) n x e
 invalidated_with number name l peers p between s n x e head false left keyed it were = subst (λ (q : Parts). IsLeft number name l peers q s n x e) (sym it) left
-invalidated_with number name l peers p between s n x e head true left keyed it were = by (key_in_flow x.exchange.number p.flow) x.errand.place.path (key_is number name l peers p s left.shows n x e left.passed.answered) keyed.place it were
+invalidated_with number name l peers p between s n x e head true left keyed it were = by (key_in_flow x.exchange.number p.flow) x.errand.place.path (key_is number name l peers p s left.shows n x e left.passed.answered) one.place it were
   where
+    one : IsKeyed x e head
+    one = keyed refl
+
     first : IsLeft number name l peers (cleared_key (key_of e) p) (clear (key_of e) s) n x e
     first = left_cleared number name l peers p s n x e (key_of e) left
 
@@ -119,7 +116,7 @@ invalidated_with number name l peers p between s n x e head true left keyed it w
     at_site site is cleared read =
         let both : (c : ClearsEach (site_of e.key) (places_named head) (cleared_key (key_of e) p) between) × WereRead (site_of e.key) (places_named head) (cleared_key (key_of e) p) between c =
         subst (λ (u : Bytes). (c : ClearsEach u (places_named head) (cleared_key (key_of e) p) between) × WereRead u (places_named head) (cleared_key (key_of e) p) between c) is (cleared, read) in
-        each_left number name l peers n x e keyed.target (places_named head) (cleared_key (key_of e) p) between (clear (key_of e) s) keyed.key keyed.short both.0 both.1 first
+        each_left number name l peers n x e one.target (places_named head) (cleared_key (key_of e) p) between (clear (key_of e) s) one.key one.short both.0 both.1 first
 
     by : (o : Option Bytes) (path : ℕ) → o ≡ Some (key_of e) → path ≡ (place_of e.key).path → (rows : InvalidatesRows o path head p between) → WereReadOf o path head p between rows → IsLeft number name l peers between (clear_each e.key (law_places head) (clear (key_of e) s)) n x e
     by None path is at rows read = absurd (let none : None ≡ Some (key_of e) = is in cc none)

@@ -50,10 +50,10 @@ use Rattle.pp_state.specs.Bodies.{body_by, is_passed, is_passed_in, on_asker, on
 use Rattle.pp_state.specs.Ends.{Parts, bound_by, changed_at, numbers_of, on_seat_where, place_of, seat_for}
 use Rattle.pp_answers.specs.FinalHeads.{noted_body}
 use Rattle.pp_state.specs.Passing.{head_for, is_coded, may_answer, passed_on, passed_to, with_head}
-use Rattle.pp_steps_law.proofs.Charged.{course_shown}
-use Rattle.pp_steps_law.proofs.Places.{HasPlace, HasSeat, at_place, has_none, has_place, has_seat, numbers_set, one_asks}
-use Rattle.pp_steps_law.specs.Charges.{IsFor}
-use Rattle.pp_steps_law.specs.Steps.{ShowsSteps}
+use Rattle.pp_states_law.proofs.Charged.{course_shown}
+use Rattle.pp_states_law.proofs.Places.{HasPlace, HasSeat, at_place, has_none, has_place, has_seat, numbers_set, one_asks}
+use Rattle.pp_states_law.specs.Charges.{IsFor}
+use Rattle.pp_states_law.specs.Steps.{ShowsSteps}
 use Rattle.pp_answers_law.specs.Answers.{Asks, Stands}
 use Rattle.pp_answers_law.specs.Passing.{RelaysAreTheLaws}
 use Rattle.pp_answers_law.proofs.Bodies.{get_set, headed, heads, noted_behind, with_flow}

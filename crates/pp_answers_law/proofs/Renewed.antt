@@ -37,11 +37,11 @@ use Rattle.pp_answers.specs.FinalHeads.{noted_body}
 use Rattle.pp_answers.specs.Heads.{names_tag, told_unchanged}
 use Rattle.pp_answers.specs.Rows.{in_memory, joining, may_refresh, not_modified, not_modified_as, nothing_of, refreshed_at, refreshed_row, settled_on, times_for}
 use Rattle.pp_state.specs.Known.{row_for, row_in}
-use Rattle.pp_steps_law.proofs.Charged.{same_entry}
-use Rattle.pp_steps_law.specs.Charges.{IsFor}
-use Rattle.pp_steps_law.proofs.Told.{are_told_on, told_next}
-use Rattle.pp_steps_law.specs.Steps.{ShowsSteps, whole}
-use Rattle.pp_steps_law.specs.Told.{AreTold}
+use Rattle.pp_states_law.proofs.Charged.{same_entry}
+use Rattle.pp_states_law.specs.Charges.{IsFor}
+use Rattle.pp_states_law.proofs.Told.{are_told_on, told_next}
+use Rattle.pp_states_law.specs.Steps.{ShowsSteps, whole}
+use Rattle.pp_states_law.specs.Told.{AreTold}
 use Rattle.pp_text.specs.Fields.{Field}
 use Rattle.pp_valid.specs.Conditions.{names_other_tag}
 use Rattle.pp_valid.specs.declared.version.Version.{Version}
@@ -274,16 +274,16 @@ each_said {A = A} {B = B} f true (Some r) c d none unshared another row = by (c 
     by false true = refl
     by false false = refl
 
-abbrev row_said : Entry → Response → ℕ → Parts → ObjectId × Version → Parts
+abbrev pub row_said : Entry → Response → ℕ → Parts → ObjectId × Version → Parts
 row_said x head clock p row = elim (names_other_tag head.fields row.1.tag) as (λ t. Parts) [
   | true ↦ made_useless x.exchange (cleared_row x.exchange.number p)
   | false ↦ elim (names_tag (named_by x.errand.kind) row.1.tag) as (λ t. Parts) [ true ↦ refreshed_row x.exchange x.errand head row.0 clock p | false ↦ made_useless x.exchange p ]
 ]
 
-abbrev said : Entry → Response → ℕ → Parts → Bool → Option (ObjectId × Version) → Parts
+abbrev pub said : Entry → Response → ℕ → Parts → Bool → Option (ObjectId × Version) → Parts
 said x head clock p b known = elim b as (λ t. Parts) [ false ↦ not_shared x.exchange x.errand p | true ↦ elim known as (λ t. Parts) [ None ↦ made_useless x.exchange p | Some seen ↦ row_said x head clock p seen ] ]
 
-said_is : (x : Entry) (head : Response) (clock : ℕ) (p : Parts) (known : Option (ObjectId × Version)) → not_modified_as x.exchange x.errand head clock (told_unchanged head.fields x.errand.kind known) p ≡ said x head clock p (may_store head.fields) known
+pub said_is : (x : Entry) (head : Response) (clock : ℕ) (p : Parts) (known : Option (ObjectId × Version)) → not_modified_as x.exchange x.errand head clock (told_unchanged head.fields x.errand.kind known) p ≡ said x head clock p (may_store head.fields) known
 said_is x head clock p known =
     each_said (λ u. not_modified_as x.exchange x.errand head clock u p) (may_store head.fields) known (λ row. names_other_tag head.fields row.1.tag) (λ row. names_tag (named_by x.errand.kind) row.1.tag) _ _ _ _
 

@@ -1,5 +1,5 @@
 -- A text names the same key of a site in the program and in the law.
-use Rattle.std.proofs.Common.{◌≡◌, ◌≤◌, ◌<◌, ◌+◌, ◌^◌, refl, sym, subst, ap, ap₂, ◌∙◌, ℕ, zero, suc, Bool, true, false, not, ◌==◌, ◌&&◌, cond, drop, length, map, take, List, [], ◌∷◌, ◌++◌, append_assoc, codes, nat_le, nat_lt, Some, None, Option, Result, Ok, Err, arith}
+use Rattle.std.proofs.Common.{◌≡◌, ◌≤◌, ◌<◌, ◌+◌, ◌^◌, refl, sym, subst, ap, ap₂, ◌∙◌, ℕ, suc, Bool, true, false, not, ◌==◌, ◌&&◌, cond, length, take, List, [], ◌∷◌, ◌++◌, append_assoc, codes, nat_le, Some, None, Option, Result, Ok, Err, arith}
 use Rattle.std.proofs.lemmas.Bool.Decides.{nat_tests}
 use Rattle.std.proofs.lemmas.Fmt.{decimal_injective}
 use Rattle.std.proofs.lemmas.Slice.Eq.{bytes_eq-Decides}
@@ -10,9 +10,9 @@ use Rattle.std.specs.Prelude.{bytes_eq, nat_eq, slice_index, ⊤}
 use Rattle.http_uri.specs.ByteClasses.{split_once_back, split_once_front}
 use Rattle.pp_cache.specs.Named.{key_named, path_named, site_of, some_if, url_named}
 use Rattle.pp_law.specs.Lists.{Bytes}
-use Rattle.pp_law.specs.ThroughHeads.{is_same_host, key_named as law_key_named, path_named as law_path_named}
+use Rattle.pp_law.specs.ThroughHeads.{is_same_host, path_named as law_path_named}
 use Rattle.pp_target.specs.Absolute.{Absolute, absolute_at}
-use Rattle.pp_target.specs.Key.{Key, fitting, host_in, is_host, key_at, key_from, key_from_parts, key_of, key_with, port_in, port_number, port_or_default, port_text, text_of}
+use Rattle.pp_target.specs.Key.{Key, fitting, host_in, is_host, key_at, key_from, key_from_parts, key_of, key_with, port_in, port_number, port_or_default, port_text, text_of, with_slash}
 use Rattle.pp_target.specs.declared.target.TargetFault.{TargetFault}
 use Rattle.pp_target.specs.declared.target.TargetFault.TheVariants.{NotHttp, BadHost, TooLong}
 use Rattle.pp_text.specs.Bytes.{is_empty, lower}
@@ -30,11 +30,12 @@ both_true : (a b : Bool) → (a && b) ≡ true → (a ≡ true) × (b ≡ true)
 both_true true b is = (refl, is)
 both_true false b is = absurd (let no : false ≡ true = is in cc no)
 
--- ---- the key of a target has a host without a colon, and a port of TCP
+-- ---- the key of a target has a host without a colon, a port of TCP, and a path
 
 pub record IsPlain (key : Key) : Type 0 where
   pub host : list_all (λ b. not (b == 58)) key.host ≡ true
   pub port : key.port < 2 ^ 64
+  pub path : 0 < length key.path
 
 abbrev Holds : Result Key TargetFault → Type 0
 Holds (Ok key) = IsPlain key
@@ -75,6 +76,14 @@ port_small authority port is = by (split_once_back 58 authority) is
         either true it = grind arith
         either false it = in_range (number_of text) it
 
+slashed : (path : List ℕ) → 0 < length (with_slash path)
+slashed [] = omega arith
+slashed (b ∷ path) = by (b == 47)
+  where
+    by : (t : Bool) → 0 < length (cond t (b ∷ path) (47 ∷ b ∷ path))
+    by true = omega arith
+    by false = omega arith
+
 fitting_holds : (key : Key) → IsPlain key → Holds (fitting key)
 fitting_holds key plain = by (nat_le (length (text_of key)) 8192)
   where
@@ -87,7 +96,7 @@ parts_hold scheme authority path = by (bytes_eq scheme (codes "http")) (is_host 
   where
     with_port : (o : Option ℕ) → port_in authority ≡ o → Holds (key_with (host_in authority) path o)
     with_port None is = tt
-    with_port (Some port) is = fitting_holds (key_of (host_in authority) port path) (record { host = lowered_plain (host_in authority) (front_plain authority); port = port_small authority port is })
+    with_port (Some port) is = fitting_holds (key_of (host_in authority) port path) (record { host = lowered_plain (host_in authority) (front_plain authority); port = port_small authority port is; path = slashed path })
 
     by : (a b : Bool) → Holds (cond (not a) (Err NotHttp) (cond (not b) (Err BadHost) (key_with (host_in authority) path (port_in authority))))
     by true true = with_port (port_in authority) refl

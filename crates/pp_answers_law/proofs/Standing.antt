@@ -11,9 +11,9 @@ use Rattle.pp_law.specs.Stages.{is_begun}
 use Rattle.pp_law.specs.State.{State, Client, Course, Exchange}
 use Rattle.pp_law.specs.Table.{clear, swept}
 use Rattle.pp_seats_law.specs.Fates.{is_refused}
-use Rattle.pp_steps_law.proofs.Charged.{asker_rest, lost_given}
-use Rattle.pp_steps_law.proofs.Paid.{anew_given}
-use Rattle.pp_steps_law.specs.Charges.{IsFor}
+use Rattle.pp_states_law.proofs.Charged.{asker_rest, lost_given}
+use Rattle.pp_states_law.proofs.Paid.{anew_given}
+use Rattle.pp_states_law.specs.Charges.{IsFor}
 use Rattle.pp_target.specs.Key.{text_of}
 use Rattle.pp_answers_law.specs.Answers.{Stands}
 

@@ -1,6 +1,5 @@
 -- The head of a response that is passed, and names no other place, as the law has it.
-use Rattle.std.proofs.Common.{◌≡◌, refl, sym, subst, ap, ◌∙◌, ℕ, Bool, true, false, not, ◌&&◌, cond, find, take, List, [], ◌∷◌, Some, None, Option}
-use Rattle.std.specs.Prelude.{bytes_eq}
+use Rattle.std.proofs.Common.{◌≡◌, refl, sym, subst, ap, ◌∙◌, ℕ, Bool, true, false, take, List, [], ◌∷◌, Some, Option}
 use Rattle.pp_flow.specs.declared.entry.Entry.{Entry}
 use Rattle.pp_flow_law.specs.Tables.{Leaving}
 use Rattle.pp_framing.specs.declared.body.BodyRule.{BodyRule}
@@ -17,8 +16,8 @@ use Rattle.pp_state.specs.Ends.{Parts, cleared_key, cleared_of, cleared_row}
 use Rattle.pp_answers.specs.FinalHeads.{noted_body, relayed}
 use Rattle.pp_state.specs.Keys.{key_of as key_in_flow}
 use Rattle.pp_answers.specs.ThroughHeads.{ClearsEach, InvalidatesIf, InvalidatesRows, disproved, is_disproved, places_named}
-use Rattle.pp_steps_law.proofs.Charged.{same_entry}
-use Rattle.pp_steps_law.specs.Steps.{ShowsSteps}
+use Rattle.pp_states_law.proofs.Charged.{same_entry}
+use Rattle.pp_states_law.specs.Steps.{ShowsSteps}
 use Rattle.pp_answers_law.specs.Disproving.{GoesWithClient}
 use Rattle.pp_answers_law.specs.Throughs.{IsPassed, ThroughHeadsAreTheLaws}
 use Rattle.pp_answers_law.proofs.Disproved.{disproved_same, disproveds, law_is as law_disproved_is}

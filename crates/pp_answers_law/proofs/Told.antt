@@ -21,9 +21,9 @@ use Rattle.pp_seats_law.specs.Replies.{IsBroughtFor, IsPipedFor, ShowsFate, cour
 use Rattle.pp_seats_law.specs.Seats.{ShowsOpen, ShowsSeat}
 use Rattle.pp_states_law.specs.Clients.{FollowsOn}
 use Rattle.pp_state.specs.Ends.{Parts, numbers_of, on_seat_where, seat_for, told, told_to}
-use Rattle.pp_steps_law.proofs.Charged.{course_shown, on_asker}
-use Rattle.pp_steps_law.proofs.Places.{HasNone, HasPlace, has_none, has_place}
-use Rattle.pp_steps_law.specs.Steps.{ShowsSteps}
+use Rattle.pp_states_law.proofs.Charged.{course_shown, on_asker}
+use Rattle.pp_states_law.proofs.Places.{HasNone, HasPlace, has_none, has_place}
+use Rattle.pp_states_law.specs.Steps.{ShowsSteps}
 use Rattle.pp_answers_law.proofs.Orders.{follow_told, tell_is, told_client, told_client_if}
 use Rattle.pp_answers_law.specs.Answers.{Stands, TellsAreTheLaws, TellsAs}
 

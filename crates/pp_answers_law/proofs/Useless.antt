@@ -24,10 +24,10 @@ use Rattle.pp_answers.specs.Answers.{not_shared, on_its}
 use Rattle.pp_state.specs.Ends.{Parts, cleared_key, cleared_of, cleared_row, lost_attempt, on_seat_where, seat_for, unusable}
 use Rattle.pp_answers.specs.FinalHeads.{noted_body}
 use Rattle.pp_state.specs.Keys.{key_of}
-use Rattle.pp_steps_law.proofs.Charged.{clears_row, losses, lost_given, number_is, same_entry}
-use Rattle.pp_steps_law.proofs.Paid.{Stays, charge_stays}
-use Rattle.pp_steps_law.specs.Charges.{GoesOn, IsFor}
-use Rattle.pp_steps_law.specs.Steps.{ShowsSteps}
+use Rattle.pp_states_law.proofs.Charged.{clears_row, losses, lost_given, number_is, same_entry}
+use Rattle.pp_states_law.proofs.Paid.{Stays, charge_stays}
+use Rattle.pp_states_law.specs.Charges.{GoesOn, IsFor}
+use Rattle.pp_states_law.specs.Steps.{ShowsSteps}
 use Rattle.pp_target.specs.Key.{text_of}
 use Rattle.pp_answers_law.specs.Answers.{IsAnswered, NotSharedAreTheLaws, Stands, UselessAreTheLaws}
 use Rattle.pp_answers_law.proofs.Dropped.{IsRead, drop_read, read_now, there_too}
@@ -75,7 +75,7 @@ still_placed number name l peers q t shows n x e now has place there asks own la
 has_its_place : (number : ℕ → ℕ) (name : Bytes) (l : Leaving) (peers : List Peer) (p : Parts) (s : State) → ShowsSteps number name l peers p s → (n : ℕ) (x : Entry) (e : Exchange) → IsAnswered n p s x e → has_place e ≡ true
 has_its_place number name l peers p s shows n x e answered = sym (ap (λ (o : Option Exchange). is_some_with has_place o) answered.there) ∙ sym (places number l p.flow s shows.shows.exchanges n) ∙ ap (λ (o : Option Entry). is_some o) answered.placed
 
-order_is : (e : Exchange) (s : State) → useless e s ≡ drop_answer e (lose_attempt e s)
+pub order_is : (e : Exchange) (s : State) → useless e s ≡ drop_answer e (lose_attempt e s)
 unfolding useless drop_answer
 order_is e s = lost_told e Useless Dropping s
 
@@ -164,7 +164,7 @@ client_rest : (e : Exchange) (g : Client → Client) (s : State) (n : ℕ) → e
 unfolding on_client_of
 client_rest e g s n = refl
 
-unshared_is : (e : Exchange) (s : State) → law_not_shared e s ≡ drop_answer e (on_client_of e (without_shared_row (attempts_of e)) (clear (law_key e) s))
+pub unshared_is : (e : Exchange) (s : State) → law_not_shared e s ≡ drop_answer e (on_client_of e (without_shared_row (attempts_of e)) (clear (law_key e) s))
 unfolding law_not_shared drop_answer
 unshared_is e s = shared_rows_told e Useless Dropping (attempts_of e) (clear (law_key e) s)
 

@@ -13,8 +13,8 @@ use Rattle.pp_seats.specs.declared.seat.Brought.TheVariants.{Useless as NoneOfUs
 use Rattle.pp_answers.specs.Answers.{not_shared}
 use Rattle.pp_state.specs.Ends.{Parts, made_useless, told_to, unusable}
 use Rattle.pp_answers.specs.FinalHeads.{noted_body}
-use Rattle.pp_steps_law.specs.Charges.{GoesOn, IsFor}
-use Rattle.pp_steps_law.specs.Steps.{OfSteps, ShowsSteps}
+use Rattle.pp_states_law.specs.Charges.{GoesOn, IsFor}
+use Rattle.pp_states_law.specs.Steps.{OfSteps, ShowsSteps}
 
 -- it has a place, and the law has it
 pub record IsAnswered (n : ℕ) (p : Parts) (s : State) (x : Entry) (e : Exchange) : Type 0 where

@@ -8,8 +8,8 @@ use Rattle.pp_law.specs.Stages.{is_through}
 use Rattle.pp_law.specs.State.{State, Client, Exchange}
 use Rattle.pp_law.specs.ThroughHeads.{disproved as law_disproved}
 use Rattle.pp_answers.specs.ThroughHeads.{disproved}
-use Rattle.pp_steps_law.specs.Charges.{IsFor}
-use Rattle.pp_steps_law.specs.Steps.{OfSteps, ShowsSteps}
+use Rattle.pp_states_law.specs.Charges.{IsFor}
+use Rattle.pp_states_law.specs.Steps.{OfSteps, ShowsSteps}
 use Rattle.pp_answers_law.specs.Answers.{Asks, IsAnswered, Stands}
 
 pub record HasClient (s : State) (e : Exchange) : Type 0 where

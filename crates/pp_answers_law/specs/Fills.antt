@@ -16,12 +16,12 @@ use Rattle.pp_state.specs.declared.state.State.{State as Turn}
 use Rattle.pp_answers_law.specs.Owns.{IsAtHead, IsShown}
 
 -- of each head of a response to an exchange, and what it leaves
-abbrev pub OfHeads : (Bytes → Leaving → List Peer → Turn → State → ℕ → Entry → Exchange → Response → BodyRule → Parts → Type 0) → Type 0
+abbrev pub OfHeads : ((ℕ → ℕ) → Bytes → Leaving → List Peer → Turn → State → ℕ → Entry → Exchange → Response → BodyRule → Parts → Type 0) → Type 0
 OfHeads P = (number : ℕ → ℕ) (name : Bytes) (l : Leaving) (peers : List Peer) (t : Turn) (s : State) (n : ℕ) (x : Entry) (e : Exchange) (head : Response) (rule : BodyRule) (new : Parts) → IsAtHead number name l peers t s n x e → new.refused ≡ []
-    → P name l peers t s n x e head rule new
+    → P number name l peers t s n x e head rule new
 
 abbrev pub PartHeadsAreTheLaws : Type 0
-PartHeadsAreTheLaws = OfHeads (λ name l peers t s n x e head rule new. TakesPart x.exchange x.errand head rule (version_in x.errand head) t new → IsShown name l peers (noted_body n new) (part_head e head rule s))
+PartHeadsAreTheLaws = OfHeads (λ number name l peers t s n x e head rule new. TakesPart x.exchange x.errand head rule (version_in x.errand head) t new → IsShown number t.cache.lives s.next_instance name l peers (noted_body n new) (part_head e head rule s))
 
 abbrev pub OwnsAreTakenAsTheLaws : Type 0
-OwnsAreTakenAsTheLaws = OfHeads (λ name l peers t s n x e head rule new. e.aim ≡ Own → TakesHead n x.exchange x.errand head rule t new → IsShown name l peers new (by_aim e head rule s))
+OwnsAreTakenAsTheLaws = OfHeads (λ number name l peers t s n x e head rule new. e.aim ≡ Own → TakesHead n x.exchange x.errand head rule t new → IsShown number t.cache.lives s.next_instance name l peers new (by_aim e head rule s))

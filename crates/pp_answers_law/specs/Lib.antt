@@ -1,6 +1,8 @@
 pub mod Answers
 pub mod Disproving
 pub mod Fills
+pub mod Joined
+pub mod Lives
 pub mod Making
 pub mod Naming
 pub mod Outdates

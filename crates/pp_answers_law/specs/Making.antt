@@ -20,8 +20,8 @@ use Rattle.pp_state.specs.Ends.{Parts}
 use Rattle.pp_answers.specs.FinalHeads.{noted_body}
 use Rattle.pp_state.specs.Pins.{busy_row, busy_rows, exchanges_of}
 use Rattle.pp_answers.specs.Rows.{in_memory, made_row}
-use Rattle.pp_steps_law.specs.Charges.{IsFor}
-use Rattle.pp_steps_law.specs.Steps.{OfSteps, ShowsSteps}
+use Rattle.pp_states_law.specs.Charges.{IsFor}
+use Rattle.pp_states_law.specs.Steps.{OfSteps, ShowsSteps}
 use Rattle.pp_valid.specs.declared.version.Version.{Version}
 use Rattle.pp_answers_law.specs.Answers.{IsAnswered, Stands}
 

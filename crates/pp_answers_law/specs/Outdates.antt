@@ -5,13 +5,13 @@ use Rattle.pp_flow.specs.declared.entry.Entry.{Entry}
 use Rattle.pp_framing.specs.declared.body.BodyRule.{BodyRule}
 use Rattle.pp_head.specs.Response.{Response}
 use Rattle.pp_law.specs.Lists.{Bytes}
-use Rattle.pp_law.specs.State.{State, Exchange}
-use Rattle.pp_law.specs.ThroughHeads.{places_named, through_head}
+use Rattle.pp_law.specs.State.{Exchange}
+use Rattle.pp_law.specs.ThroughHeads.{invalidates as law_invalidates, places_named, through_head}
 use Rattle.pp_state.specs.Ends.{Parts, cleared_key}
 use Rattle.pp_answers.specs.FinalHeads.{PassesHead, noted_body}
 use Rattle.pp_state.specs.Keys.{key_of}
 use Rattle.pp_answers.specs.ThroughHeads.{ClearsEach, InvalidatesIf, InvalidatesRows, invalidates, places_named as places_in}
-use Rattle.pp_steps_law.specs.Steps.{OfSteps, ShowsSteps}
+use Rattle.pp_states_law.specs.Steps.{OfSteps, ShowsSteps}
 use Rattle.pp_target.specs.Key.{key_at, place_of}
 use Rattle.pp_answers_law.specs.Throughs.{IsPassed}
 
@@ -41,5 +41,5 @@ pub record IsKeyed (x : Entry) (e : Exchange) (head : Response) : Type 0 where
   pub short : AreShort (site_of e.key) (places_named head)
 
 abbrev pub PassedHeadsAreTheLaws : Type 0
-PassedHeadsAreTheLaws = OfSteps (λ number name l peers p s. (n : ℕ) (x : Entry) (e : Exchange) (head : Response) (rule : BodyRule) (new : Parts) → IsPassed p s n x e → IsKeyed x e head → (passes : PassesHead name x.exchange x.errand head rule p new)
+PassedHeadsAreTheLaws = OfSteps (λ number name l peers p s. (n : ℕ) (x : Entry) (e : Exchange) (head : Response) (rule : BodyRule) (new : Parts) → IsPassed p s n x e → (law_invalidates e head ≡ true → IsKeyed x e head) → (passes : PassesHead name x.exchange x.errand head rule p new)
     → WereReadIf (invalidates x.errand.is_safe head) (key_of x.exchange.number p.flow) x.errand.place.path head p passes.outdated.between passes.outdated.invalidated → ShowsSteps number name l peers (noted_body n new) (through_head e head rule s))

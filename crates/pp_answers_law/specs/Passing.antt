@@ -7,8 +7,8 @@ use Rattle.pp_law.specs.OwnHeads.{other_head as law_other_head, other_part as la
 use Rattle.pp_law.specs.State.{Exchange}
 use Rattle.pp_answers.specs.FinalHeads.{noted_body, other_head, other_part, relayed}
 use Rattle.pp_answers.specs.OwnHeads.{is_private_part}
-use Rattle.pp_steps_law.specs.Charges.{IsFor}
-use Rattle.pp_steps_law.specs.Steps.{OfSteps, ShowsSteps}
+use Rattle.pp_states_law.specs.Charges.{IsFor}
+use Rattle.pp_states_law.specs.Steps.{OfSteps, ShowsSteps}
 use Rattle.pp_answers_law.specs.Answers.{Asks, IsAnswered, Stands}
 
 -- to the request that waits for it

@@ -10,8 +10,8 @@ use Rattle.pp_objects.specs.Instances.{Instance, id_of, row_of}
 use Rattle.pp_state.specs.Ends.{Parts}
 use Rattle.pp_answers.specs.FinalHeads.{noted_body}
 use Rattle.pp_answers.specs.Rows.{not_modified, renewed, settled_on}
-use Rattle.pp_steps_law.specs.Charges.{IsFor}
-use Rattle.pp_steps_law.specs.Steps.{OfSteps, ShowsSteps}
+use Rattle.pp_states_law.specs.Charges.{IsFor}
+use Rattle.pp_states_law.specs.Steps.{OfSteps, ShowsSteps}
 use Rattle.pp_valid.specs.declared.version.Version.{Version}
 use Rattle.pp_answers_law.specs.Answers.{IsAnswered, Stands}
 

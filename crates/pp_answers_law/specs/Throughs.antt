@@ -8,8 +8,8 @@ use Rattle.pp_law.specs.State.{State, Exchange}
 use Rattle.pp_law.specs.ThroughHeads.{places_named, through_head}
 use Rattle.pp_state.specs.Ends.{Parts}
 use Rattle.pp_answers.specs.FinalHeads.{PassesHead, noted_body}
-use Rattle.pp_steps_law.specs.Charges.{IsFor}
-use Rattle.pp_steps_law.specs.Steps.{OfSteps, ShowsSteps}
+use Rattle.pp_states_law.specs.Charges.{IsFor}
+use Rattle.pp_states_law.specs.Steps.{OfSteps, ShowsSteps}
 use Rattle.pp_answers_law.specs.Answers.{Asks, IsAnswered, Stands}
 use Rattle.pp_answers_law.specs.Disproving.{GoesWithClient}
 

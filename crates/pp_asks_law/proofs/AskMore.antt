@@ -8,11 +8,11 @@ use Rattle.pp_asks_law.proofs.Wanted.{body_within, kept_whole, next_by}
 use Rattle.pp_asks_law.specs.Asks.{FollowersMayAsk}
 use Rattle.pp_asks_law.specs.Rests.{AreCounted, HasNumbers, RestsOn}
 use Rattle.pp_cache_law.proofs.Numbers.{some_is}
-use Rattle.pp_closings_law.proofs.AllSeen.{all_drop}
-use Rattle.pp_closings_law.specs.Sides.{AreOrderly, IsOrderly, MayClose, ShowsSides}
-use Rattle.pp_closings_law.specs.Unseen.{Tells}
-use Rattle.pp_decides_law.proofs.GivenUp.{waiting_in_order}
-use Rattle.pp_decides_law.specs.Decides.{IsAtPlace}
+use Rattle.pp_turns_law.proofs.AllSeen.{all_drop}
+use Rattle.pp_turns_law.specs.Sides.{AreOrderly, IsOrderly, MayClose, ShowsSides}
+use Rattle.pp_turns_law.specs.Unread.{Tells}
+use Rattle.pp_turns_law.proofs.GivenUp.{waiting_in_order}
+use Rattle.pp_turns_law.specs.Decides.{IsAtPlace}
 use Rattle.pp_deciding_law.proofs.Disk.{in_place}
 use Rattle.pp_deciding_law.proofs.Framed.{steps_in}
 use Rattle.pp_desk.specs.Closings.{Sides, sides, with_parts}
@@ -44,9 +44,9 @@ use Rattle.pp_seats.specs.declared.seat.Next.{Next as SeatNext}
 use Rattle.pp_seats.specs.declared.seat.Seat.{Seat}
 use Rattle.pp_seats_law.specs.Seats.{ShowsSeat}
 use Rattle.pp_state.specs.Ends.{AreInOrder, parts}
-use Rattle.pp_steps_law.specs.Charges.{GoesOn}
-use Rattle.pp_steps_law.specs.Lines.{AllGo}
-use Rattle.pp_steps_law.specs.Losses.{IsComing}
+use Rattle.pp_states_law.specs.Charges.{GoesOn}
+use Rattle.pp_states_law.specs.Lines.{AllGo}
+use Rattle.pp_states_law.specs.Losses.{IsComing}
 use Rattle.pp_store.specs.Kept.{KeptMap}
 use Rattle.pp_take.specs.GivingUp.{all_given_up}
 use Rattle.pp_turns_law.proofs.First.{IsShownAt, seat_shown}

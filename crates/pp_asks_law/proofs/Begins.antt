@@ -6,7 +6,7 @@ use Rattle.std.specs.Prelude.{slice_get}
 use Rattle.pp_asks_law.proofs.Wanted.{only_found}
 use Rattle.pp_asks_law.specs.Begins.{BeginsOn, RepliesMayBegin}
 use Rattle.pp_cache_law.proofs.Numbers.{some_is}
-use Rattle.pp_decides_law.specs.Begins.{MayShow, is_kept_by}
+use Rattle.pp_turns_law.specs.Begins.{MayShow, is_kept_by}
 use Rattle.pp_deciding_law.proofs.Disk.{in_place}
 use Rattle.pp_flow_law.specs.Tables.{none_leaves}
 use Rattle.pp_law.specs.Closing.{is_of}

@@ -12,7 +12,7 @@ use Rattle.pp_asks_law.proofs.Wanted.{body_within, kept_whole, next_by}
 use Rattle.pp_asks_law.specs.Dials.{DialsMayGoWithout, FewNumbersAreGiven}
 use Rattle.pp_asks_law.specs.Rests.{HasNumbers, RestsOn}
 use Rattle.pp_cache_law.proofs.Numbers.{some_is}
-use Rattle.pp_decides_law.specs.Decides.{IsAtPlace}
+use Rattle.pp_turns_law.specs.Decides.{IsAtPlace}
 use Rattle.pp_deciding_law.proofs.Disk.{in_place}
 use Rattle.pp_flow.specs.Changes.{entry_of}
 use Rattle.pp_flow.specs.declared.entry.Entry.{Entry}
@@ -43,7 +43,7 @@ use Rattle.pp_seats_law.specs.Fates.{is_refused}
 use Rattle.pp_seats_law.specs.Seats.{ShowsSeat}
 use Rattle.pp_state.specs.Ends.{Parts, ended, lost_attempt, parts}
 use Rattle.pp_state.specs.declared.state.State.{State as Turn}
-use Rattle.pp_steps_law.specs.Steps.{ShowsSteps}
+use Rattle.pp_states_law.specs.Steps.{ShowsSteps}
 use Rattle.pp_store.specs.Kept.{KeptMap}
 use Rattle.pp_turns_law.proofs.First.{IsShownAt, seat_shown}
 use Rattle.pp_world.specs.Log.{Log}

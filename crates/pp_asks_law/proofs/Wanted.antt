@@ -74,7 +74,7 @@ whole_below : (n extent : ℕ) → IsExtent n extent → (extent ≡ n → ⊥) 
 whole_below n extent whole isnt = omega (arith, whole, isnt)
 
 -- of the chunks that are kept each has 4,096 bytes, or ends the body
-ends_whole : (n extent : ℕ) → IsExtent n extent → EndsWhole extent n
+pub ends_whole : (n extent : ℕ) → IsExtent n extent → EndsWhole extent n
 ends_whole n extent whole = by (extent == n) refl
   where
     by : (b : Bool) → (extent == n) ≡ b → EndsWhole extent n

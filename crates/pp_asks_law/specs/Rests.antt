@@ -1,7 +1,7 @@
 -- What rounds rest on of a turn, beside what stands and a log that obeys the law (ours).
 use Rattle.std.specs.Prelude.{◌≡◌, ◌≤◌, ◌+◌, ◌-◌, ◌^◌, ℕ, false, length, List, slice_get, Some}
 use Rattle.std.specs.List.{list_any}
-use Rattle.pp_closings_law.specs.Unseen.{IsCountedOn}
+use Rattle.pp_turns_law.specs.Unread.{IsCountedOn}
 use Rattle.pp_law.specs.Connections.{conn}
 use Rattle.pp_law.specs.State.{State, Conn}
 use Rattle.pp_law.specs.Store.{is_closed}

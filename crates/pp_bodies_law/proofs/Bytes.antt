@@ -19,11 +19,11 @@ use Rattle.pp_seats_law.specs.Seats.{ShowsSeat}
 use Rattle.pp_states_law.specs.Clients.{FollowsOn}
 use Rattle.pp_state.specs.Bodies.{finished_for, on_asker as on_asker_in, on_passed as on_passed_seat, on_pipe, on_place, passed_whole, poured as poured_in, poured_into}
 use Rattle.pp_state.specs.Ends.{Parts, numbers_of, seat_for}
-use Rattle.pp_steps_law.proofs.Charged.{on_asker}
-use Rattle.pp_steps_law.proofs.Places.{HasNone, HasPlace, has_none, has_place}
-use Rattle.pp_steps_law.specs.Charges.{IsFor}
-use Rattle.pp_steps_law.specs.Losses.{IsComing}
-use Rattle.pp_steps_law.specs.Steps.{ShowsSteps}
+use Rattle.pp_states_law.proofs.Charged.{on_asker}
+use Rattle.pp_states_law.proofs.Places.{HasNone, HasPlace, has_none, has_place}
+use Rattle.pp_states_law.specs.Charges.{IsFor}
+use Rattle.pp_states_law.specs.Losses.{IsComing}
+use Rattle.pp_states_law.specs.Steps.{ShowsSteps}
 use Rattle.pp_bodies_law.proofs.Pipes.{ends, law_passed_follows, law_passed_number, passed_id, pours, skips}
 use Rattle.pp_bodies_law.specs.Bytes.{PoursAreTheLaws}
 use Rattle.pp_bodies_law.specs.Ends.{FinishesAreTheLaws}

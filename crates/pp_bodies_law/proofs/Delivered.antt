@@ -23,9 +23,9 @@ use Rattle.pp_state.specs.Bodies.{IsButForCells, delivered_for, joined, poured_f
 use Rattle.pp_state.specs.Ends.{exchange_at, parts}
 use Rattle.pp_state.specs.Unseen.{drops_in, dropped_more, with_dropped}
 use Rattle.pp_state.specs.declared.state.State.{State as Core}
-use Rattle.pp_steps_law.proofs.Told.{told_asked}
-use Rattle.pp_steps_law.specs.Steps.{ShowsSteps}
-use Rattle.pp_steps_law.specs.Told.{AreTold}
+use Rattle.pp_states_law.proofs.Told.{told_asked}
+use Rattle.pp_states_law.specs.Steps.{ShowsSteps}
+use Rattle.pp_states_law.specs.Told.{AreTold}
 use Rattle.pp_bodies_law.proofs.Bytes.{pours_are}
 use Rattle.pp_bodies_law.proofs.Joined.{bounds, join_clients, joins}
 use Rattle.pp_bodies_law.specs.Bytes.{DeliversAreTheLaws}

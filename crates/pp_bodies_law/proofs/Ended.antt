@@ -22,8 +22,8 @@ use Rattle.pp_states_law.specs.Decisions.{AreApart}
 use Rattle.pp_states_law.specs.Endings.{IsFirst}
 use Rattle.pp_state.specs.Bodies.{without_exchange}
 use Rattle.pp_state.specs.Ends.{Parts}
-use Rattle.pp_steps_law.proofs.Told.{conn_next, over_next, told_next, told_over}
-use Rattle.pp_steps_law.specs.Steps.{ShowsSteps, whole}
+use Rattle.pp_states_law.proofs.Told.{conn_next, over_next, told_next, told_over}
+use Rattle.pp_states_law.specs.Steps.{ShowsSteps, whole}
 use Rattle.pp_bodies_law.proofs.Bytes.{finishes}
 use Rattle.pp_bodies_law.specs.Ends.{ClosesAreTheLaws, RestsAreTheLaws, finished_by_law, finished_in}
 

@@ -41,10 +41,10 @@ use Rattle.pp_states_law.specs.Asks.{IsAskedAs}
 use Rattle.pp_state.specs.Bodies.{HasJoined, IsButForCells, joined, joined_by, joined_to, joined_within, left_for, with_came, with_run}
 use Rattle.pp_state.specs.declared.state.State.{State as Core}
 use Rattle.pp_state.specs.Ends.{Parts, parts}
-use Rattle.pp_steps_law.proofs.Made.{gone_too}
-use Rattle.pp_steps_law.proofs.Told.{Stands, are_told_on, exchange_next, told_moved, told_next, told_of}
-use Rattle.pp_steps_law.specs.Steps.{ShowsSteps}
-use Rattle.pp_steps_law.specs.Told.{IsTold, IsToldBy}
+use Rattle.pp_states_law.proofs.Made.{gone_too}
+use Rattle.pp_states_law.proofs.Told.{Stands, are_told_on, exchange_next, told_moved, told_next, told_of}
+use Rattle.pp_states_law.specs.Steps.{ShowsSteps}
+use Rattle.pp_states_law.specs.Told.{IsTold, IsToldBy}
 use Rattle.pp_bodies_law.specs.Bytes.{FindsRoom, IsToJoin, JoinsAreTheLaws}
 
 -- ---- memory

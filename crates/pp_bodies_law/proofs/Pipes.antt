@@ -21,7 +21,7 @@ use Rattle.pp_cache_law.proofs.Numbers.{some_is}
 use Rattle.pp_cache_law.specs.Pairs.{AreBoth}
 use Rattle.pp_seats.specs.declared.seat.Course.{Course as SeatCourse}
 use Rattle.pp_bodies_law.specs.Bytes.{FitsIn}
-use Rattle.pp_steps_law.specs.Losses.{IsComing}
+use Rattle.pp_states_law.specs.Losses.{IsComing}
 use Rattle.pp_seats.specs.Seats.{brought_to, passed_in, without_body}
 use Rattle.pp_seats.specs.declared.seat.Brought.{Brought as SeatBrought}
 use Rattle.pp_seats.specs.declared.seat.Brought.TheVariants.{Awaited as NoneYet, Useless as NoneOfUse, Joins as JoinsRow, Passes as PassesOn, TooWide as IsTooWide, Refused}

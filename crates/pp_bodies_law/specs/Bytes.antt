@@ -20,8 +20,8 @@ use Rattle.pp_seats_law.specs.Exchanges.{Binding}
 use Rattle.pp_state.specs.Bodies.{IsButForCells, delivered, joined, on_asker, poured_for, poured_into}
 use Rattle.pp_state.specs.Ends.{exchange_at, parts}
 use Rattle.pp_state.specs.declared.state.State.{State as Core}
-use Rattle.pp_steps_law.specs.Charges.{IsFor}
-use Rattle.pp_steps_law.specs.Steps.{OfSteps, ShowsSteps}
+use Rattle.pp_states_law.specs.Charges.{IsFor}
+use Rattle.pp_states_law.specs.Steps.{OfSteps, ShowsSteps}
 use Rattle.pp_flow_law.specs.Tables.{Leaving}
 use Rattle.pp_peers.specs.declared.peers.Peer.{Peer}
 

@@ -19,9 +19,9 @@ use Rattle.pp_states_law.specs.Decisions.{AreApart}
 use Rattle.pp_states_law.specs.Endings.{IsFirst}
 use Rattle.pp_state.specs.Bodies.{finished_for, on_asker, without_exchange}
 use Rattle.pp_state.specs.Ends.{Parts}
-use Rattle.pp_steps_law.specs.Charges.{IsFor}
-use Rattle.pp_steps_law.specs.Losses.{IsComing}
-use Rattle.pp_steps_law.specs.Steps.{OfSteps, ShowsSteps, whole}
+use Rattle.pp_states_law.specs.Charges.{IsFor}
+use Rattle.pp_states_law.specs.Losses.{IsComing}
+use Rattle.pp_states_law.specs.Steps.{OfSteps, ShowsSteps, whole}
 
 -- the exchange of the program, and that of the law; more of what is passed to its client was to come
 pub record IsEnding (s : State) (e : Asking) (d : Exchange) : Type 0 where

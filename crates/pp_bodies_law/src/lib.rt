@@ -1,6 +1,6 @@
 //! Where the bytes of a response go: what they leave of the program shows what they leave of the law.
 //!
-//! What the steps of a turn change stands for the state of the law as `pp_steps_law` has it. From it follows that bytes which join an
+//! What the steps of a turn change stands for the state of the law as `pp_states_law` has it. From it follows that bytes which join an
 //! instance, or go into the pipe of a client, and the end of a response with its exchange and its connection leave what the law makes
 //! of its own state.
 //!

@@ -56,13 +56,13 @@ use Rattle.pp_seats_law.specs.Fronts.{ShowsFront}
 use Rattle.pp_seats_law.specs.Seats.{ShowsOpen, ShowsSeat}
 use Rattle.pp_seats_law.specs.Words.{ShowsNext}
 use Rattle.pp_state.specs.Ends.{numbers_of, on_seat_where, parts, place_of}
-use Rattle.pp_steps_law.proofs.Places.{HasSeat, at_place, has_seat}
+use Rattle.pp_states_law.proofs.Places.{HasSeat, at_place, has_seat}
 use Rattle.pp_talk.specs.Talking.{offered, offered_in}
 use Rattle.pp_text.specs.Bytes.{is_empty}
 use Rattle.pp_turns_law.proofs.Dry.{at_body}
 use Rattle.pp_turns_law.proofs.Drying.{dry}
 use Rattle.pp_turns_law.proofs.First.{IsShownAt, seat_shown}
-use Rattle.pp_turns_law.proofs.Following.{has_source, is_next}
+use Rattle.pp_turns_law.proofs.Follows.{has_source, is_next}
 use Rattle.pp_turns_law.specs.Nexts.{IsNext}
 use Rattle.pp_turns_law.specs.Turns.{IsFollowing}
 use Rattle.pp_world.specs.Log.{Log}
@@ -124,6 +124,10 @@ touched_cache now n x = by (place_of n (numbers_of x.parts.seats))
     by : (o : Option ℕ) → (on_seat_where o (marked_seat now) x.parts).cache ≡ x.parts.cache
     by None = refl
     by (Some i) = refl
+
+-- what is in memory stays, whoever is woken
+pub woken_cache : (id : ℕ) (old woken : Desk) → Wakes id old woken → woken.state.cache ≡ old.state.cache
+woken_cache id old woken wakes = ap (λ (z : Sides). z.parts.cache) wakes.touches.is ∙ touched_cache wakes.anew.state.now id (sides wakes.anew) ∙ ap (λ (d : Desk). d.state.cache) wakes.regains.rest
 
 -- ---- it is written to
 
@@ -266,7 +270,7 @@ module _ (id i : ℕ) (seat : Seat) (terms : List Term) (log : Log) (number : �
   -- ---- what is as it was
 
   pub same_cache : woken.state.cache ≡ x.moving.desk.state.cache
-  same_cache = ap (λ (z : Sides). z.parts.cache) wakes.touches.is ∙ touched_cache wakes.anew.state.now id (sides wakes.anew) ∙ ap (λ (d : Desk). d.state.cache) wakes.regains.rest
+  same_cache = woken_cache id x.moving.desk woken wakes
 
   pub looks : length woken.state.awake.items < vec_capacity woken.state.awake
   looks = subst (λ a. length a.items < vec_capacity a) (sym (ap (λ (d : Desk). d.state.awake) wakes.touches.rest ∙ ap (λ (d : Desk). d.state.awake) wakes.regains.rest)) (may_look terms log number w x u it)

@@ -4,7 +4,7 @@ use Rattle.std.specs.Option.{option_and_then}
 use Rattle.pp_cache.specs.Bounds.{IsBounded}
 use Rattle.pp_cache.specs.Memory.{Memory}
 use Rattle.pp_cache_law.proofs.Alike.{used_of_all}
-use Rattle.pp_decides_law.proofs.Twice.{regains_once}
+use Rattle.pp_turns_law.proofs.Twice.{regains_once}
 use Rattle.pp_desk.specs.declared.desk.Desk.{Desk}
 use Rattle.pp_due.specs.OnDisk.{if_on_disk, is_on_disk, next_on_disk}
 use Rattle.pp_events_law.proofs.ReadyBehind.{given_on}

@@ -23,15 +23,15 @@ use Rattle.pp_world.specs.Log.{Log}
 use Rattle.pp_world.specs.declared.event.Wants.{Wants}
 
 -- the client that it shows
-record IsOf (number : ℕ → ℕ) (name : Bytes) (seat : Seat) (cs : List Client) : Type 0 where
-  client : Client
-  there : IsIn client cs
-  shows : ShowsSeat number name [] seat client
+pub record IsOf (number : ℕ → ℕ) (name : Bytes) (seat : Seat) (cs : List Client) : Type 0 where
+  pub client : Client
+  pub there : IsIn client cs
+  pub shows : ShowsSeat number name [] seat client
 
 same_seat : (seat other : Seat) → Some other ≡ Some seat → other ≡ seat
 same_seat seat other is = cc is
 
-of_seat : (number : ℕ → ℕ) (name : Bytes) (i : ℕ) (seats : List Seat) (cs : List Client) (seat : Seat) → AreShown number name [] seats cs → slice_get seats i ≡ Some seat → IsOf number name seat cs
+pub of_seat : (number : ℕ → ℕ) (name : Bytes) (i : ℕ) (seats : List Seat) (cs : List Client) (seat : Seat) → AreShown number name [] seats cs → slice_get seats i ≡ Some seat → IsOf number name seat cs
 of_seat number name i [] cs seat shown here = absurd (cc here)
 of_seat number name i (other ∷ seats) [] seat shown here = absurd shown
 of_seat number name zero (other ∷ seats) (c ∷ cs) seat shown here = record { client = c; there = inl refl; shows = subst (λ (x : Seat). ShowsSeat number name [] x c) (same_seat seat other here) shown.0 }

@@ -14,7 +14,7 @@ use Rattle.pp_proxy.specs.Moving.{Turning}
 use Rattle.pp_seats.specs.declared.seat.Seat.{Seat}
 use Rattle.pp_seats_law.specs.Clients.{IsAt}
 use Rattle.pp_state.specs.Ends.{numbers_of, place_of}
-use Rattle.pp_steps_law.proofs.Places.{HasSeat, at_place, has_seat}
+use Rattle.pp_states_law.proofs.Places.{HasSeat, at_place, has_seat}
 use Rattle.pp_turns_law.proofs.First.{IsShownAt, seat_shown}
 use Rattle.pp_waits_law.proofs.Rested.{first_none, none_at}
 use Rattle.pp_world.specs.Log.{Log}

@@ -6,3 +6,6 @@ pub mod ClientWrites
 pub mod Origins
 pub mod Settled
 pub mod Moments
+pub mod Named
+pub mod Bare
+pub mod Lone

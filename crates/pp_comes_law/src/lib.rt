@@ -11,14 +11,18 @@
 
 mod answered; // who is answered, and goes on
 mod clients; // of clients
+mod lone; // what goes alone
 mod moments; // each moment of a read
+mod named; // what clients name is there
 mod origins; // connections to origins
 mod settled; // of whom nothing is over
 mod silent; // Stop, a tick, an origin that was reached, a client that comes
 
 pub use answered::answered_ones_go_on;
 pub use clients::{clients_are_read_as_by_the_law, clients_are_written_to_as_by_the_law};
-pub use moments::reads_rest_on_what_is_there;
+pub use lone::lone_asks_go_with_clients;
+pub use moments::{heads_leave_pipes_bare, reads_rest_on_what_is_there};
+pub use named::{names_are_there_as_events_come, names_are_there_in_reads};
 pub use origins::{
     broken_connections_come_as_by_the_law, origins_are_asked_as_they_come,
     origins_are_read_as_they_come,

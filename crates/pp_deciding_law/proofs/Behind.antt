@@ -13,11 +13,11 @@ use Rattle.pp_objects.specs.Changes.{is_elsewhere}
 use Rattle.pp_seats.specs.declared.key.Key.{Key as OwnedKey}
 use Rattle.pp_state.specs.Pins.{is_for_memory}
 use Rattle.pp_cache_law.specs.Tables.{ShowsInstance, ShowsTable}
-use Rattle.pp_decides_law.proofs.BegunAsks.{WasSeat}
-use Rattle.pp_decides_law.proofs.Changed.{get_set}
-use Rattle.pp_decides_law.proofs.Regained.{get_other, regains}
-use Rattle.pp_decides_law.specs.Regains.{AllFollow}
-use Rattle.pp_decides_law.specs.Takes.{taken}
+use Rattle.pp_turns_law.proofs.BegunAsks.{WasSeat}
+use Rattle.pp_turns_law.proofs.Changed.{get_set}
+use Rattle.pp_turns_law.proofs.Regained.{get_other, regains}
+use Rattle.pp_turns_law.specs.Regains.{AllFollow}
+use Rattle.pp_turns_law.specs.Takes.{taken}
 use Rattle.pp_flow_law.specs.Tables.{AreGiven, none_leaves}
 use Rattle.pp_law.specs.Lists.{Bytes, has_number}
 use Rattle.pp_law.specs.Opening.{is_at, is_same_phase}
@@ -35,8 +35,8 @@ use Rattle.pp_seats.specs.declared.seat.Seat.{Seat}
 use Rattle.pp_state.specs.Ends.{Parts, all_regained, changed_at, parts, regained as regained_seat}
 use Rattle.pp_state.specs.declared.state.State.{State as Turn}
 use Rattle.pp_steps.specs.Evicting.{given_way, row_in_way, without_row}
-use Rattle.pp_steps_law.specs.Steps.{ShowsSteps}
-use Rattle.pp_steps_law.specs.Told.{IsTold}
+use Rattle.pp_states_law.specs.Steps.{ShowsSteps}
+use Rattle.pp_states_law.specs.Told.{IsTold}
 use Rattle.pp_store.specs.Kept.{KeptMap}
 use Rattle.pp_take.specs.Deciding.{Takes, accounted, key_for, marked_for, row_at, row_by, with_marked}
 use Rattle.pp_turns_law.specs.Firsts.{AreAwake, FirstDueInMemory, IsAsleep, IsFirst, with_row_if}

@@ -1,7 +1,7 @@
 -- Behind a cut the turn stands as before it.
 use Rattle.std.proofs.Common.{◌≡◌, sym, subst, ap, ◌∙◌, ℕ, true, ◌||◌, List, Option, Some, None}
 use Rattle.pp_cache.specs.Bounds.{IsBounded}
-use Rattle.pp_closings_law.specs.Sides.{MayClose, ShowsSides}
+use Rattle.pp_turns_law.specs.Sides.{MayClose, ShowsSides}
 use Rattle.pp_conf.specs.Conf.{Settings}
 use Rattle.pp_desk.specs.Closings.{Sides, closed_client}
 use Rattle.pp_flow_law.specs.Tables.{none_leaves}
@@ -14,7 +14,7 @@ use Rattle.pp_seats.specs.declared.due.Due.TheVariants.{CutOff as IsCut}
 use Rattle.pp_seats.specs.declared.seat.Seat.{Seat}
 use Rattle.pp_state.specs.Ends.{parts}
 use Rattle.pp_state.specs.declared.state.State.{State as Turn}
-use Rattle.pp_steps_law.specs.Steps.{ShowsSteps}
+use Rattle.pp_states_law.specs.Steps.{ShowsSteps}
 use Rattle.pp_store.specs.Kept.{KeptMap}
 use Rattle.pp_turns_law.specs.Firsts.{AreAwake, IsFirst}
 use Rattle.pp_turns_law.specs.Rows.{AreReady, ShowsDisk}

@@ -1,11 +1,11 @@
 -- A cut that is found is permitted, and leads where the law leads.
 use Rattle.std.proofs.Common.{◌≡◌, refl, sym, subst, ap, ◌∙◌, ℕ, true, false, ◌&&◌, not, List, [], Option, Some, None, option_map}
 use Rattle.std.specs.Prelude.{is_some, option_and_then, slice_get}
-use Rattle.pp_closings_law.proofs.Leaving.{leaves_client}
-use Rattle.pp_closings_law.specs.Clients.{MayBeClosed}
-use Rattle.pp_closings_law.specs.Sides.{MayClose, ShowsSides}
-use Rattle.pp_decides_law.proofs.Sitting.{is_at, shown_at}
-use Rattle.pp_decides_law.specs.Decides.{FollowsWhatIsThere}
+use Rattle.pp_turns_law.proofs.Leaving.{leaves_client}
+use Rattle.pp_turns_law.specs.Clients.{MayBeClosed}
+use Rattle.pp_turns_law.specs.Sides.{MayClose, ShowsSides}
+use Rattle.pp_turns_law.proofs.Sitting.{is_at, shown_at}
+use Rattle.pp_turns_law.specs.Decides.{FollowsWhatIsThere}
 use Rattle.pp_desk.specs.Closings.{Sides, closed_client}
 use Rattle.pp_due.specs.Due.{cut_of}
 use Rattle.pp_due.specs.Entering.{key_at, key_due}

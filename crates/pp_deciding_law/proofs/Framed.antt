@@ -13,7 +13,7 @@ use Rattle.pp_peers.specs.declared.peers.Peer.{Peer}
 use Rattle.pp_states_law.proofs.Asked.{all_as, frames, itself}
 use Rattle.pp_states_law.specs.States.{Parts as Whole, ShowsState}
 use Rattle.pp_state.specs.Ends.{Parts}
-use Rattle.pp_steps_law.specs.Steps.{ShowsSteps, whole}
+use Rattle.pp_states_law.specs.Steps.{ShowsSteps, whole}
 use Rattle.pp_turns_law.specs.Firsts.{with_row_if}
 use Rattle.pp_turns_law.specs.Rows.{kept_alone, with_entry, with_row_of}
 

@@ -4,12 +4,12 @@ use Rattle.std.specs.Prelude.{option_map, slice_get, slice_set}
 use Rattle.pp_cache.specs.Memory.{Memory}
 use Rattle.pp_cache_law.proofs.Moves.{in_slot-elsewhere, in_slot-gone}
 use Rattle.pp_cache_law.proofs.Numbers.{is_same, some_is}
-use Rattle.pp_decides_law.proofs.Changed.{get_set}
-use Rattle.pp_decides_law.proofs.Moved.{there_moved}
-use Rattle.pp_decides_law.proofs.Refused.{left_stands}
-use Rattle.pp_decides_law.proofs.Regained.{get_other}
-use Rattle.pp_decides_law.proofs.Sitting.{interim_front, interim_source}
-use Rattle.pp_decides_law.proofs.StandingRow.{followed_by_one, more_stands}
+use Rattle.pp_turns_law.proofs.Changed.{get_set}
+use Rattle.pp_turns_law.proofs.Moved.{there_moved}
+use Rattle.pp_turns_law.proofs.Refused.{left_stands}
+use Rattle.pp_turns_law.proofs.Regained.{get_other}
+use Rattle.pp_turns_law.proofs.Sitting.{interim_front, interim_source}
+use Rattle.pp_turns_law.proofs.StandingRow.{followed_by_one, more_stands}
 use Rattle.pp_desk.specs.Closings.{Sides, closed_client, closing_at, left_at, left_by_errand, left_own, with_parts, withdrawn}
 use Rattle.pp_flow.specs.Changes.{Exchanges, entry_of}
 use Rattle.pp_flow.specs.declared.entry.Entry.{Entry}
@@ -32,7 +32,7 @@ use Rattle.pp_state.specs.Pins.{is_for_memory, without_instance}
 use Rattle.pp_state.specs.Places.{IsChangedIn}
 use Rattle.pp_state.specs.declared.state.State.{State as Turn}
 use Rattle.pp_steps.specs.Evicting.{without_row}
-use Rattle.pp_steps_law.proofs.Told.{Stands}
+use Rattle.pp_states_law.proofs.Told.{Stands}
 use Rattle.pp_take.specs.Deciding.{Ask, Does, GetsPage, IsPaged, IsPagedIf, IsRefused, Takes, accounted, aim_for, answered_at, ask_at, asked_by, asked_with, begun_at, exchange_begun, followed_at, followed_by, followed_more, following, is_pass, is_served_by, left_all, left_if_useless, left_useless, marked_for, may_follow, origin_asked, relayed, row_at, row_followed, with_marked}
 use Rattle.pp_world.specs.declared.note.Decision.{Decision}
 use Rattle.pp_world.specs.declared.note.Decision.TheVariants.{Refuse, Hit, Part, Head, NotModified, Unsatisfiable, Relay, Validate, Fetch, Pass}

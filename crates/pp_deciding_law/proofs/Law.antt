@@ -1,8 +1,8 @@
 -- What a decision and a cut keep of the law's state: what is kept on the disk, what is set, and the phase.
 use Rattle.std.proofs.Common.{◌≡◌, refl, ap, ◌∙◌, ℕ, Bool, true, false, ◌==◌, ◌||◌, not, nat_lt, find, List, [], ◌∷◌, Option, Some, None, Ok, Err, Result}
 use Rattle.pp_ask.specs.declared.kind.AskKind.{AskKind}
-use Rattle.pp_decides_law.specs.Takes.{taken}
-use Rattle.pp_decides_law.specs.Ways.{left_for}
+use Rattle.pp_turns_law.specs.Takes.{taken}
+use Rattle.pp_turns_law.specs.Ways.{left_for}
 use Rattle.pp_head.specs.Request.{Request}
 use Rattle.pp_law.specs.Closing.{close_client, exchanges_of, forsake, leave, leave_one, left_alone}
 use Rattle.pp_law.specs.Connections.{each_exchange, end_exchange, exchange, on_client, on_exchange}

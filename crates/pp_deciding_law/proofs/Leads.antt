@@ -6,17 +6,17 @@ use Rattle.std.specs.Prelude.{count_by, is_some, option_and_then, slice_get}
 use Rattle.pp_cache_law.proofs.Alike.{room_of}
 use Rattle.pp_cache_law.proofs.Numbers.{some_is}
 use Rattle.pp_conf.specs.Conf.{Settings}
-use Rattle.pp_decides_law.proofs.Comes.{comes, notes}
-use Rattle.pp_decides_law.proofs.Keyed.{keys_same}
-use Rattle.pp_decides_law.proofs.MarkedRow.{for_memory_same}
-use Rattle.pp_decides_law.proofs.Sitting.{is_at, shown_at}
-use Rattle.pp_decides_law.proofs.Stays.{stays_due}
-use Rattle.pp_decides_law.proofs.Taken.{regains, takes}
-use Rattle.pp_decides_law.proofs.Turned.{and_no}
-use Rattle.pp_decides_law.proofs.Ways.{ways}
-use Rattle.pp_decides_law.specs.Decides.{IsDecided}
-use Rattle.pp_decides_law.specs.Takes.{HasItsRow, MayDo, taken}
-use Rattle.pp_decides_law.specs.Ways.{GivesWay, IsStillDue, IsWay, MayYield, left_for}
+use Rattle.pp_turns_law.proofs.RowComes.{comes, notes}
+use Rattle.pp_turns_law.proofs.Keyed.{keys_same}
+use Rattle.pp_turns_law.proofs.MarkedRow.{for_memory_same}
+use Rattle.pp_turns_law.proofs.Sitting.{is_at, shown_at}
+use Rattle.pp_turns_law.proofs.Stays.{stays_due}
+use Rattle.pp_turns_law.proofs.Taken.{regains, takes}
+use Rattle.pp_turns_law.proofs.Turned.{and_no}
+use Rattle.pp_turns_law.proofs.Ways.{ways}
+use Rattle.pp_turns_law.specs.Decides.{IsDecided}
+use Rattle.pp_turns_law.specs.Takes.{HasItsRow, MayDo, taken}
+use Rattle.pp_turns_law.specs.Ways.{GivesWay, IsStillDue, IsWay, MayYield, left_for}
 use Rattle.pp_due.specs.Due.{cut_of, due_of as due_of_seat}
 use Rattle.pp_due.specs.Entering.{key_at, key_due, is_to_enter}
 use Rattle.pp_flow_law.specs.Tables.{none_leaves}
@@ -51,7 +51,7 @@ use Rattle.pp_state.specs.Pins.{idle_row as idle_in}
 use Rattle.pp_state.specs.declared.state.State.{State as Turn}
 use Rattle.pp_states_law.specs.Decisions.{AsksOnce}
 use Rattle.pp_steps.specs.Evicting.{given_way, row_in_way, row_notes, unless_own, without_row}
-use Rattle.pp_steps_law.specs.Steps.{ShowsSteps}
+use Rattle.pp_states_law.specs.Steps.{ShowsSteps}
 use Rattle.pp_store.specs.Kept.{KeptMap}
 use Rattle.pp_take.specs.Deciding.{Takes, afforded}
 use Rattle.pp_target.specs.Key.{Key, text_of}

@@ -5,7 +5,7 @@ use Rattle.pp_cache.specs.Memory.{Memory}
 use Rattle.pp_cache_law.proofs.Numbers.{is_same, some_is}
 use Rattle.pp_seats.specs.declared.front.Front.{Front}
 use Rattle.pp_cache_law.specs.Tables.{ShowsTable}
-use Rattle.pp_decides_law.proofs.StandingOn.{there_by}
+use Rattle.pp_turns_law.proofs.StandingOn.{there_by}
 use Rattle.pp_flow_law.specs.Tables.{AreGiven, none_leaves}
 use Rattle.pp_law.specs.Lists.{Bytes, has_number}
 use Rattle.pp_law.specs.State.{State, Brought, Awaited, Useless, Joins, Passes, TooWide, Client, Instance as Known, Reply, Stage, Undecided, Waiting, Passing, Answering}
@@ -25,8 +25,8 @@ use Rattle.pp_seats_law.specs.Replies.{ShowsBrought, ShowsFate, ShowsStage, sour
 use Rattle.pp_seats_law.specs.Seats.{ShowsOpen}
 use Rattle.pp_state.specs.Ends.{parts, source_of}
 use Rattle.pp_state.specs.declared.state.State.{State as Turn}
-use Rattle.pp_steps_law.specs.Steps.{ShowsSteps}
-use Rattle.pp_steps_law.specs.Told.{IsTold}
+use Rattle.pp_states_law.specs.Steps.{ShowsSteps}
+use Rattle.pp_states_law.specs.Told.{IsTold}
 use Rattle.pp_turns_law.proofs.First.{IsShownAt, seat_shown}
 use Rattle.pp_turns_law.specs.Firsts.{AreAwake, IsAsleep}
 use Rattle.pp_turns_law.specs.Rows.{AreReady, IsReady}

@@ -1,7 +1,7 @@
 -- A cut that is found is permitted, and leads where the law leads (RFC 2616, sections 8.1 and 8.1.4; the order is ours).
 use Rattle.std.specs.Prelude.{◌≡◌, ℕ, true, List, [], ◌∷◌, slice_get, Some}
 use Rattle.pp_cache.specs.Bounds.{IsBounded}
-use Rattle.pp_closings_law.specs.Sides.{MayClose, ShowsSides}
+use Rattle.pp_turns_law.specs.Sides.{MayClose, ShowsSides}
 use Rattle.pp_desk.specs.Closings.{Sides, closed_client}
 use Rattle.pp_law.specs.Closing.{close_client}
 use Rattle.pp_law.specs.Connections.{client}

@@ -2,10 +2,10 @@
 -- and 13; the order is ours).
 use Rattle.std.specs.Prelude.{◌≡◌, ◌≤◌, ℕ, true, false, ◌||◌, not, List, [], ◌∷◌, ◌++◌, is_some, length, slice_get, Some, None}
 use Rattle.std.specs.List.{filter_map, list_any}
-use Rattle.pp_decides_law.specs.Decides.{FollowsWhatIsThere, MayRefuse}
-use Rattle.pp_decides_law.specs.Follows.{FollowsNoRow}
-use Rattle.pp_decides_law.specs.Takes.{taken}
-use Rattle.pp_decides_law.specs.Ways.{left_for}
+use Rattle.pp_turns_law.specs.Decides.{FollowsWhatIsThere, MayRefuse}
+use Rattle.pp_turns_law.specs.Follows.{FollowsNoRow}
+use Rattle.pp_turns_law.specs.Takes.{taken}
+use Rattle.pp_turns_law.specs.Ways.{left_for}
 use Rattle.pp_due.specs.Entering.{key_at}
 use Rattle.pp_flow_law.specs.Tables.{none_leaves}
 use Rattle.pp_law.specs.After.{take_decision}
@@ -30,7 +30,7 @@ use Rattle.pp_state.specs.Ends.{Parts, parts}
 use Rattle.pp_state.specs.Pins.{busy_row, exchanges_of}
 use Rattle.pp_state.specs.declared.state.State.{State as Turn}
 use Rattle.pp_steps.specs.Evicting.{given_way, row_in_way, row_notes}
-use Rattle.pp_steps_law.specs.Steps.{ShowsSteps}
+use Rattle.pp_states_law.specs.Steps.{ShowsSteps}
 use Rattle.pp_store.specs.Kept.{KeptMap}
 use Rattle.pp_take.specs.Deciding.{Takes, afforded, ask_at}
 use Rattle.pp_turns_law.specs.Firsts.{FirstDueInMemory, with_row_if}

@@ -9,7 +9,7 @@ use Rattle.pp_client.specs.Bodies.{unread}
 use Rattle.pp_client.specs.Requests.{body_in}
 use Rattle.pp_client.specs.declared.body.Body.{Body}
 use Rattle.pp_client.specs.declared.body.Body.TheVariants.{Unread, Dropped, Over}
-use Rattle.pp_decides_law.proofs.Regained.{next_suc}
+use Rattle.pp_turns_law.proofs.Regained.{next_suc}
 use Rattle.pp_flow.specs.Changes.{entry_of, line_of}
 use Rattle.pp_flow.specs.declared.entry.Entry.{Entry}
 use Rattle.pp_flow_law.proofs.Entries.{other_way}
@@ -32,7 +32,7 @@ use Rattle.pp_state.specs.Ends.{numbers_of, place_of, seat_for}
 use Rattle.pp_state.specs.declared.asking.Asking.TheVariants.{Text}
 use Rattle.pp_state.specs.declared.state.State.{State as Turn}
 use Rattle.pp_states_law.proofs.Lines.{all_found, same_itself}
-use Rattle.pp_steps_law.proofs.Places.{at_place, no_place}
+use Rattle.pp_states_law.proofs.Places.{at_place, no_place}
 use Rattle.pp_text.specs.Bytes.{is_empty}
 use Rattle.pp_turns_law.specs.Wants.{ShowsEnd}
 use Rattle.pp_endings_law.proofs.IdleOnes.{owes, owing}

@@ -3,12 +3,12 @@ use Rattle.std.proofs.Common.{◌≡◌, refl, sym, subst, ap, ◌∙◌, ℕ, z
 use Rattle.std.specs.Prelude.{option_and_then, option_map, slice_get, slice_set}
 use Rattle.pp_cache_law.proofs.Numbers.{some_is, true_false}
 use Rattle.pp_client.specs.Replies.{is_said}
-use Rattle.pp_closings_law.proofs.Leaving.{leaves_client}
-use Rattle.pp_closings_law.proofs.Own.{its_number}
-use Rattle.pp_closings_law.proofs.Quit.{closing_client, quit, same_client}
-use Rattle.pp_closings_law.specs.Clients.{MayBeClosed}
-use Rattle.pp_closings_law.specs.Sides.{ShowsSides}
-use Rattle.pp_decides_law.specs.Decides.{FollowsWhatIsThere, IsAtPlace}
+use Rattle.pp_turns_law.proofs.Leaving.{leaves_client}
+use Rattle.pp_turns_law.proofs.Own.{its_number}
+use Rattle.pp_turns_law.proofs.Quit.{closing_client, quit, same_client}
+use Rattle.pp_turns_law.specs.Clients.{MayBeClosed}
+use Rattle.pp_turns_law.specs.Sides.{ShowsSides}
+use Rattle.pp_turns_law.specs.Decides.{FollowsWhatIsThere, IsAtPlace}
 use Rattle.pp_desk.specs.Closings.{Sides, closed_client}
 use Rattle.pp_flow_law.proofs.Entries.{none_some}
 use Rattle.pp_flow_law.specs.Tables.{none_leaves}
@@ -22,7 +22,7 @@ use Rattle.pp_seats.specs.Follows.{answer_in}
 use Rattle.pp_seats.specs.declared.seat.Answer.{Answer}
 use Rattle.pp_seats.specs.declared.seat.Seat.{Seat}
 use Rattle.pp_state.specs.Ends.{source_of}
-use Rattle.pp_steps_law.proofs.Places.{numbers_set}
+use Rattle.pp_states_law.proofs.Places.{numbers_set}
 use Rattle.pp_turns_law.specs.Turns.{IsFollowing}
 use Rattle.pp_endings_law.proofs.Kept.{IsOne, ends_still, find_self, leaves_still, other_here}
 use Rattle.pp_endings_law.proofs.Law.{Steps, close_steps}

@@ -7,7 +7,7 @@ use Rattle.pp_law.specs.Lists.{Bytes}
 use Rattle.pp_law.specs.Replies.{end_replies}
 use Rattle.pp_law.specs.State.{State}
 use Rattle.pp_state.specs.Ends.{parts}
-use Rattle.pp_steps_law.specs.Steps.{ShowsSteps}
+use Rattle.pp_states_law.specs.Steps.{ShowsSteps}
 use Rattle.pp_endings_law.proofs.Ended.{all_end}
 use Rattle.pp_endings_law.specs.Replies.{DesksEndAsTheLaws, HasEnded}
 

@@ -7,10 +7,10 @@ use Rattle.pp_cache_law.proofs.Numbers.{true_false}
 use Rattle.pp_client.specs.Clients.{said_by as side_said}
 use Rattle.pp_client.specs.Replies.{has_begun as is_said_to, is_said}
 use Rattle.pp_client.specs.Requests.{body_in}
-use Rattle.pp_closings_law.proofs.Quit.{same_client}
-use Rattle.pp_decides_law.proofs.Changed.{get_set}
-use Rattle.pp_decides_law.proofs.Sitting.{is_at, on_seat_is, seat_again, shown_at}
-use Rattle.pp_decides_law.specs.Decides.{IsAtPlace}
+use Rattle.pp_turns_law.proofs.Quit.{same_client}
+use Rattle.pp_turns_law.proofs.Changed.{get_set}
+use Rattle.pp_turns_law.proofs.Sitting.{is_at, on_seat_is, seat_again, shown_at}
+use Rattle.pp_turns_law.specs.Decides.{IsAtPlace}
 use Rattle.pp_desk.specs.Closings.{Sides, closed_client, with_parts}
 use Rattle.pp_desk.specs.Replies.{EndsBy, EndsSaid, EndsSaidOf, EndsWhere, account_renewed, closes_in, is_finished_in, without_finished_at}
 use Rattle.pp_flow_law.proofs.Entries.{none_some}

@@ -1,7 +1,7 @@
 -- The connection of an origin ended, or broke: its line is over, or asked elsewhere, and then replies end.
 use Rattle.std.proofs.Common.{◌≡◌, refl, sym, subst, ap, ◌∙◌, ℕ, Bool, true, false, ◌&&◌, Some, None, Option}
-use Rattle.pp_closings_law.proofs.Peers.{HasPeer}
-use Rattle.pp_closings_law.specs.Sides.{ShowsSides}
+use Rattle.pp_turns_law.proofs.Peers.{HasPeer}
+use Rattle.pp_turns_law.specs.Sides.{ShowsSides}
 use Rattle.pp_desk.specs.Closings.{Sides, closed_conn}
 use Rattle.pp_framing.specs.declared.body.Ending.{Ending}
 use Rattle.pp_framing.specs.declared.body.Ending.TheVariants.{Whole, Short}

@@ -5,10 +5,10 @@ use Rattle.pp_bodies_law.specs.Ends.{finished_by_law}
 use Rattle.pp_cache_law.proofs.Finds.{find_mapped, find_passes}
 use Rattle.pp_cache_law.proofs.Numbers.{some_is, true_false}
 use Rattle.pp_cache_law.proofs.PairLemmas.{count_mapped_same}
-use Rattle.pp_closings_law.proofs.Orderly.{out}
-use Rattle.pp_closings_law.proofs.Peers.{HasPeer, linked}
-use Rattle.pp_closings_law.proofs.Shut.{shuts}
-use Rattle.pp_closings_law.specs.Sides.{ShowsSides}
+use Rattle.pp_turns_law.proofs.Orderly.{out}
+use Rattle.pp_turns_law.proofs.Peers.{HasPeer, linked}
+use Rattle.pp_turns_law.proofs.Shut.{shuts}
+use Rattle.pp_turns_law.specs.Sides.{ShowsSides}
 use Rattle.pp_desk.specs.Closings.{Sides, closed_conn}
 use Rattle.pp_flow_law.proofs.Entries.{none_some, same_as, same_number}
 use Rattle.pp_flow_law.proofs.Told.{found_alone}
@@ -30,8 +30,8 @@ use Rattle.pp_states_law.proofs.Ended.{gone}
 use Rattle.pp_states_law.proofs.Lines.{same_itself}
 use Rattle.pp_states_law.specs.Decisions.{AreApart}
 use Rattle.pp_state.specs.Lines.{lost_line}
-use Rattle.pp_steps_law.proofs.Charged.{number_is}
-use Rattle.pp_steps_law.specs.Lines.{AllGo}
+use Rattle.pp_states_law.proofs.Charged.{number_is}
+use Rattle.pp_states_law.specs.Lines.{AllGo}
 use Rattle.pp_endings_law.proofs.Pipes.{closed_is, closing_as, conns_beside, peer_over, pipe_found, with_line}
 use Rattle.pp_endings_law.specs.Gone.{MayBeGone}
 
@@ -232,6 +232,7 @@ closing_shown s p j shows = record {
   has_brought = shows.has_brought;
   may_pipeline = λ opens. absurd (cc opens);
   is_closing = shows.is_closing;
+  stays = λ opens. absurd (cc opens);
   mark = shows.mark;
   has_waited = shows.has_waited;
   pipe = λ opens. absurd (cc opens);

@@ -6,10 +6,10 @@ use Rattle.pp_bodies_law.specs.Ends.{finished_by_law, over_in}
 use Rattle.pp_cache_law.proofs.Finds.{find_mapped, find_passes}
 use Rattle.pp_cache_law.proofs.Framing.{frames_of, the_same}
 use Rattle.pp_cache_law.proofs.PairLemmas.{count_mapped_same, joined_none}
-use Rattle.pp_closings_law.proofs.Orderly.{closed as closed_may, ended_orderly, found, mapped, shorter}
-use Rattle.pp_closings_law.proofs.Own.{HasEntry, has_entry}
-use Rattle.pp_closings_law.proofs.Peers.{HasPeer, find_set, set_twice}
-use Rattle.pp_closings_law.specs.Sides.{AreOrderly, IsOrderly, ShowsSides}
+use Rattle.pp_turns_law.proofs.Orderly.{closed as closed_may, ended_orderly, found, mapped, shorter}
+use Rattle.pp_turns_law.proofs.Own.{HasEntry, has_entry}
+use Rattle.pp_turns_law.proofs.Peers.{HasPeer, find_set, set_twice}
+use Rattle.pp_turns_law.specs.Sides.{AreOrderly, IsOrderly, ShowsSides}
 use Rattle.pp_desk.specs.Closings.{Sides, closed_conn}
 use Rattle.pp_flow.specs.Changes.{entry_of, line_of}
 use Rattle.pp_flow.specs.declared.entry.Entry.{Entry}
@@ -34,10 +34,10 @@ use Rattle.pp_states_law.specs.Decisions.{AreApart}
 use Rattle.pp_states_law.specs.States.{ShowsState}
 use Rattle.pp_state.specs.Ends.{Parts}
 use Rattle.pp_state.specs.Lines.{lost_line}
-use Rattle.pp_steps_law.proofs.Closed.{closes as closes_line}
-use Rattle.pp_steps_law.proofs.Told.{conn_next, told_next}
-use Rattle.pp_steps_law.specs.Lines.{AllGo}
-use Rattle.pp_steps_law.specs.Steps.{ShowsSteps, whole}
+use Rattle.pp_states_law.proofs.Closed.{closes as closes_line}
+use Rattle.pp_states_law.proofs.Told.{conn_next, told_next}
+use Rattle.pp_states_law.specs.Lines.{AllGo}
+use Rattle.pp_states_law.specs.Steps.{ShowsSteps, whole}
 use Rattle.pp_endings_law.proofs.Emptied.{close_again, closed_this}
 use Rattle.pp_endings_law.proofs.GoneShort.{all_closing, apart_set, closing_alone, emptied_same, ended_conns, finished_conns, found_set, go_as, go_behind, line_else, open_peer, peer, piped, piped_there, set_conns}
 use Rattle.pp_endings_law.proofs.Pipes.{closed_again, closed_is, numbered, peer_over, with_line}

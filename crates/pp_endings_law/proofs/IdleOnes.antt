@@ -6,9 +6,9 @@ use Rattle.std.specs.Prelude.{slice_get}
 use Rattle.pp_cache_law.proofs.Finds.{find_passes}
 use Rattle.pp_cache_law.proofs.Numbers.{is_same}
 use Rattle.pp_cache_law.specs.Pairs.{AreBoth}
-use Rattle.pp_closings_law.proofs.Peers.{HasPeer, linked}
-use Rattle.pp_closings_law.proofs.Shut.{shuts}
-use Rattle.pp_closings_law.specs.Sides.{ShowsSides}
+use Rattle.pp_turns_law.proofs.Peers.{HasPeer, linked}
+use Rattle.pp_turns_law.proofs.Shut.{shuts}
+use Rattle.pp_turns_law.specs.Sides.{ShowsSides}
 use Rattle.pp_desk.specs.Closings.{Sides, peer_numbers, with_parts}
 use Rattle.pp_desk.specs.Origins.{given_up, is_idle_in, patience, patience_ended, unanswered, without_idle_on}
 use Rattle.pp_flow.specs.Changes.{entry_of, line_of}
@@ -25,7 +25,7 @@ use Rattle.pp_peers_law.specs.Peers.{ShowConns}
 use Rattle.pp_seats_law.proofs.Entries.{exchanges}
 use Rattle.pp_seats_law.specs.Exchanges.{ShowsExchange}
 use Rattle.pp_state.specs.Asking.{is_being_asked, owed_answer, owed_by, owed_to}
-use Rattle.pp_steps_law.proofs.Charged.{failures}
+use Rattle.pp_states_law.proofs.Charged.{failures}
 use Rattle.pp_endings_law.proofs.Rests.{IsBut, but_then, closed, failed, failed_conns, failed_may}
 use Rattle.pp_endings_law.specs.Idle.{IdleOneIsClosedAsTheLaws, IdleOnesAreClosedAsTheLaws, without_idle_conns}
 

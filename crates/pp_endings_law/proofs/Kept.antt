@@ -8,14 +8,14 @@ use Rattle.pp_cache_law.proofs.Finds.{find_kept}
 use Rattle.pp_cache_law.proofs.Numbers.{is_same, same_test, some_is, true_false}
 use Rattle.pp_cache_law.specs.Reads.{IsFound}
 use Rattle.pp_client.specs.Replies.{is_said}
-use Rattle.pp_closings_law.specs.Sides.{ShowsSides}
-use Rattle.pp_decides_law.proofs.Changed.{get_set}
-use Rattle.pp_decides_law.proofs.Quitting.{follows_one, left_memory}
-use Rattle.pp_decides_law.proofs.Refused.{left_stands}
-use Rattle.pp_decides_law.proofs.Regained.{get_other, next_suc}
-use Rattle.pp_decides_law.proofs.Sitting.{is_at, shown_at}
-use Rattle.pp_decides_law.proofs.StandingOn.{there_by}
-use Rattle.pp_decides_law.specs.Decides.{IsAtPlace}
+use Rattle.pp_turns_law.specs.Sides.{ShowsSides}
+use Rattle.pp_turns_law.proofs.Changed.{get_set}
+use Rattle.pp_turns_law.proofs.Quitting.{follows_one, left_memory}
+use Rattle.pp_turns_law.proofs.Refused.{left_stands}
+use Rattle.pp_turns_law.proofs.Regained.{get_other, next_suc}
+use Rattle.pp_turns_law.proofs.Sitting.{is_at, shown_at}
+use Rattle.pp_turns_law.proofs.StandingOn.{there_by}
+use Rattle.pp_turns_law.specs.Decides.{IsAtPlace}
 use Rattle.pp_desk.specs.Closings.{Sides}
 use Rattle.pp_flow_law.proofs.Entries.{none_some, same_as, same_number}
 use Rattle.pp_law.specs.Connections.{is_client, on_client}
@@ -29,7 +29,7 @@ use Rattle.pp_seats.specs.declared.seat.Seat.{Seat}
 use Rattle.pp_seats_law.specs.Clients.{IsAt, IsNowhere}
 use Rattle.pp_seats_law.specs.Seats.{ShowsSeat}
 use Rattle.pp_state.specs.Ends.{source_of}
-use Rattle.pp_steps_law.specs.Lines.{AllGo}
+use Rattle.pp_states_law.specs.Lines.{AllGo}
 use Rattle.pp_turns_law.specs.Turns.{IsFollowing}
 use Rattle.pp_endings_law.proofs.Law.{Steps, WasAsk}
 use Rattle.pp_endings_law.specs.Replies.{AllMayEnd, IsOver, MayLeave}

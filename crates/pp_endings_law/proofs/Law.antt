@@ -4,10 +4,10 @@ use Rattle.std.specs.Prelude.{count_by, option_map}
 use Rattle.pp_cache_law.proofs.Finds.{find_kept, find_mapped, find_passes, none_changed, one_only}
 use Rattle.pp_cache_law.proofs.Numbers.{some_is, true_false}
 use Rattle.pp_cache_law.proofs.PairLemmas.{AreOnly, count_kept, count_mapped}
-use Rattle.pp_closings_law.proofs.Gone.{quitting, quit_clients, quit_exchanges}
-use Rattle.pp_closings_law.proofs.Own.{its_number, law_none, law_one, left_if}
-use Rattle.pp_closings_law.proofs.Quit.{closing_client}
-use Rattle.pp_decides_law.proofs.Outrun.{with_exchanges}
+use Rattle.pp_turns_law.proofs.Gone.{quitting, quit_clients, quit_exchanges}
+use Rattle.pp_turns_law.proofs.Own.{its_number, law_none, law_one, left_if}
+use Rattle.pp_turns_law.proofs.Quit.{closing_client}
+use Rattle.pp_turns_law.proofs.Outrun.{with_exchanges}
 use Rattle.pp_flow.specs.Changes.{Exchanges}
 use Rattle.pp_flow_law.proofs.Entries.{none_some, same_as, same_number}
 use Rattle.pp_flow_law.proofs.Exchanges.{find_change, find_change_else}

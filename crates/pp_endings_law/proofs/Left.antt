@@ -1,12 +1,12 @@
 -- What a client that is closed, or that goes on to its next request, leaves in the program, whatever else of its seat is changed before.
 use Rattle.std.proofs.Common.{◌≡◌, ◌≤◌, refl, sym, subst, ap, ◌∙◌, ℕ, zero, suc, Bool, true, false, ◌==◌, cond, find, List, [], ◌∷◌, Some, None, Option}
 use Rattle.std.specs.Prelude.{count_by, option_and_then, option_map, slice_get, slice_set}
-use Rattle.pp_closings_law.proofs.Own.{HasEntry, has_entry, its_number}
-use Rattle.pp_closings_law.proofs.Quit.{closing_is, quit}
-use Rattle.pp_closings_law.specs.Sides.{ShowsSides}
-use Rattle.pp_decides_law.proofs.Changed.{get_set, set_set}
-use Rattle.pp_decides_law.proofs.Quitting.{left_memory}
-use Rattle.pp_decides_law.proofs.Sitting.{leaves_none, on_seat_is}
+use Rattle.pp_turns_law.proofs.Own.{HasEntry, has_entry, its_number}
+use Rattle.pp_turns_law.proofs.Quit.{closing_is, quit}
+use Rattle.pp_turns_law.specs.Sides.{ShowsSides}
+use Rattle.pp_turns_law.proofs.Changed.{get_set, set_set}
+use Rattle.pp_turns_law.proofs.Quitting.{left_memory}
+use Rattle.pp_turns_law.proofs.Sitting.{leaves_none, on_seat_is}
 use Rattle.pp_desk.specs.Closings.{Sides, closed_client, closing_at, left_at, left_by_errand, left_own, with_parts, withdrawn}
 use Rattle.pp_desk.specs.Replies.{at_next}
 use Rattle.pp_flow.specs.Changes.{Exchanges, changed, entry_of}
@@ -24,7 +24,7 @@ use Rattle.pp_seats.specs.Seats.{at_next_request}
 use Rattle.pp_seats.specs.declared.seat.Seat.{Seat}
 use Rattle.pp_seats_law.specs.Clients.{AreShown}
 use Rattle.pp_state.specs.Ends.{AreInOrder, Parts, asked_by, changed_at, exchange_at, exchange_of, forsaken, left, left_source, numbers_of, on_seat, source_at, source_of, unfollowed, without_source}
-use Rattle.pp_steps_law.proofs.Places.{numbers_set}
+use Rattle.pp_states_law.proofs.Places.{numbers_set}
 
 abbrev pub with_seats : List Seat → Sides → Sides
 with_seats seats x = record x { parts = record x.parts { seats = seats } }

@@ -4,14 +4,14 @@ use Rattle.std.specs.Prelude.{count_by, option_map, slice_get, slice_set}
 use Rattle.pp_cache.specs.Memory.{Memory}
 use Rattle.pp_cache_law.proofs.Numbers.{some_is}
 use Rattle.pp_client.specs.Replies.{is_said}
-use Rattle.pp_closings_law.proofs.Over.{alone}
-use Rattle.pp_closings_law.proofs.Quit.{next_swept}
-use Rattle.pp_closings_law.specs.Sides.{AreOrderly, ShowsSides}
-use Rattle.pp_decides_law.proofs.Changed.{get_set, set_set}
-use Rattle.pp_decides_law.proofs.Quitting.{client_left, left_memory}
-use Rattle.pp_decides_law.proofs.Refused.{followed_as, left_stands}
-use Rattle.pp_decides_law.proofs.Sitting.{is_at, shown_at}
-use Rattle.pp_decides_law.specs.Decides.{IsAtPlace}
+use Rattle.pp_turns_law.proofs.Over.{alone}
+use Rattle.pp_turns_law.proofs.Quit.{next_swept}
+use Rattle.pp_turns_law.specs.Sides.{AreOrderly, ShowsSides}
+use Rattle.pp_turns_law.proofs.Changed.{get_set, set_set}
+use Rattle.pp_turns_law.proofs.Quitting.{client_left, left_memory}
+use Rattle.pp_turns_law.proofs.Refused.{followed_as, left_stands}
+use Rattle.pp_turns_law.proofs.Sitting.{is_at, shown_at}
+use Rattle.pp_turns_law.specs.Decides.{IsAtPlace}
 use Rattle.pp_desk.specs.Closings.{Sides, with_parts}
 use Rattle.pp_desk.specs.Replies.{IsLookedAt, at_next}
 use Rattle.pp_flow_law.proofs.Entries.{none_some}
@@ -30,10 +30,10 @@ use Rattle.pp_seats_law.specs.Seats.{ShowsOpen, ShowsSeat}
 use Rattle.pp_state.specs.Ends.{AreInOrder, Parts, source_of}
 use Rattle.pp_state.specs.Hearing.{lacks_key_at}
 use Rattle.pp_state.specs.Places.{IsChangedIn}
-use Rattle.pp_steps_law.proofs.Places.{numbers_set}
-use Rattle.pp_steps_law.proofs.Told.{are_told_on}
-use Rattle.pp_steps_law.specs.Steps.{ShowsSteps, whole}
-use Rattle.pp_steps_law.specs.Told.{AreTold}
+use Rattle.pp_states_law.proofs.Places.{numbers_set}
+use Rattle.pp_states_law.proofs.Told.{are_told_on}
+use Rattle.pp_states_law.specs.Steps.{ShowsSteps, whole}
+use Rattle.pp_states_law.specs.Told.{AreTold}
 use Rattle.pp_turns_law.specs.Turns.{IsFollowing}
 use Rattle.pp_endings_law.proofs.Closes.{follows_there}
 use Rattle.pp_endings_law.proofs.Kept.{IsOne, all_go, ends_still, leaves_still, other_here}

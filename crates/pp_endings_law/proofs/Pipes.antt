@@ -44,6 +44,7 @@ conn_beside s p k line closing shows = record {
   has_brought = shows.has_brought;
   may_pipeline = λ opens. absurd (let bad : true ≡ false = sym closing ∙ shows.is_closing ∙ opens in cc bad);
   is_closing = shows.is_closing;
+  stays = shows.stays;
   mark = shows.mark;
   has_waited = shows.has_waited;
   pipe = λ opens. absurd (let bad : true ≡ false = sym closing ∙ shows.is_closing ∙ opens in cc bad);

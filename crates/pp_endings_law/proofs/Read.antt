@@ -36,8 +36,8 @@ use Rattle.pp_state.specs.declared.state.State.{State as Turn}
 use Rattle.pp_states_law.proofs.Asked.{all_as, frames, itself}
 use Rattle.pp_states_law.proofs.Lines.{AllFound, all_found}
 use Rattle.pp_states_law.specs.States.{ShowsState}
-use Rattle.pp_steps_law.proofs.Places.{at_place, no_place}
-use Rattle.pp_steps_law.specs.Steps.{whole}
+use Rattle.pp_states_law.proofs.Places.{at_place, no_place}
+use Rattle.pp_states_law.specs.Steps.{whole}
 use Rattle.pp_turns_law.proofs.Ahead.{far_ahead}
 use Rattle.pp_turns_law.proofs.Looked.{not_ticked}
 use Rattle.pp_turns_law.specs.Marks.{AreLoud}

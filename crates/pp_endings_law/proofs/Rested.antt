@@ -31,9 +31,9 @@ use Rattle.pp_state.specs.declared.state.State.{State as Turn}
 use Rattle.pp_states_law.proofs.Asked.{all_as, frames}
 use Rattle.pp_states_law.proofs.Lines.{same_itself}
 use Rattle.pp_states_law.specs.Asks.{IsAskedAs}
-use Rattle.pp_steps_law.proofs.Told.{told_asked, told_of}
-use Rattle.pp_steps_law.specs.Steps.{ShowsSteps}
-use Rattle.pp_steps_law.specs.Told.{AreTold}
+use Rattle.pp_states_law.proofs.Told.{told_asked, told_of}
+use Rattle.pp_states_law.specs.Steps.{ShowsSteps}
+use Rattle.pp_states_law.specs.Told.{AreTold}
 use Rattle.pp_turns_law.specs.Marks.{AreLoud, with_rested}
 use Rattle.pp_turns_law.specs.Wants.{ShowsEnd}
 use Rattle.pp_endings_law.proofs.Wanted.{wanted_by, wanted_same}

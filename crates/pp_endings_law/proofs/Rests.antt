@@ -3,7 +3,7 @@ use Rattle.std.proofs.Common.{◌≡◌, refl, sym, subst, ap, ◌∙◌, ℕ, B
 use Rattle.std.specs.Prelude.{option_map}
 use Rattle.pp_cache_law.proofs.Finds.{find_mapped}
 use Rattle.pp_cache_law.proofs.Numbers.{some_is}
-use Rattle.pp_closings_law.specs.Sides.{AreOrderly, MayClose}
+use Rattle.pp_turns_law.specs.Sides.{AreOrderly, MayClose}
 use Rattle.pp_flow_law.proofs.Entries.{none_some, same_number}
 use Rattle.pp_flow_law.proofs.Exchanges.{find_change, find_change_else}
 use Rattle.pp_flow_law.specs.Frames.{emptied}
@@ -14,10 +14,10 @@ use Rattle.pp_law.specs.Stages.{is_headed, on_passed}
 use Rattle.pp_law.specs.State.{State, Client, Conn, Course, Trying, OutOfTries, AskTooLong, RowRefused, Exchange, Passed}
 use Rattle.pp_law.specs.Table.{clear, swept}
 use Rattle.pp_seats_law.specs.Fates.{is_refused}
-use Rattle.pp_steps_law.proofs.Kept.{GoesThrough, Kept, WasClient, WasExchange, all_go, and_then}
-use Rattle.pp_steps_law.proofs.Paid.{KeepsAll, paid_keeps, without_row_keeps}
-use Rattle.pp_steps_law.specs.Charges.{GoesOn}
-use Rattle.pp_steps_law.specs.Losses.{IsComing}
+use Rattle.pp_states_law.proofs.Kept.{GoesThrough, Kept, WasClient, WasExchange, all_go, and_then}
+use Rattle.pp_states_law.proofs.Paid.{KeepsAll, paid_keeps, without_row_keeps}
+use Rattle.pp_states_law.specs.Charges.{GoesOn}
+use Rattle.pp_states_law.specs.Losses.{IsComing}
 use Rattle.pp_target.specs.Key.{text_of}
 
 -- ---- what is no part of clients, exchanges, connections and the table

@@ -26,10 +26,10 @@ use Rattle.pp_seats_law.specs.Words.{ShowsNext}
 use Rattle.pp_state.specs.Readers.{at_of, furthest, next_at}
 use Rattle.pp_state.specs.Unseen.{wanted_of}
 use Rattle.pp_state.specs.declared.state.State.{State as Turn}
-use Rattle.pp_steps_law.specs.Told.{IsTold, IsToldBy}
+use Rattle.pp_states_law.specs.Told.{IsTold, IsToldBy}
 use Rattle.pp_turns_law.proofs.Asleep.{silent_first}
 use Rattle.pp_turns_law.proofs.First.{IsShownAt, above, seat_shown}
-use Rattle.pp_turns_law.proofs.Following.{has_source, is_next}
+use Rattle.pp_turns_law.proofs.Follows.{has_source, is_next}
 use Rattle.pp_turns_law.proofs.Wanted.{same_length}
 use Rattle.pp_turns_law.specs.Marks.{AreLoud}
 use Rattle.pp_turns_law.specs.Nexts.{IsNext}

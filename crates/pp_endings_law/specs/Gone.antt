@@ -5,7 +5,7 @@
 -- `IsSoundTurn` of pp_laws_turn (`lined`, `placed`; `apart.conns`) with what a response is permitted for (`is_outstanding`); `once` is its own.
 -- That the connection goes on is what the program looks for before (`goes_on`).
 use Rattle.std.specs.Prelude.{◌≡◌, ◌≤◌, ℕ, Bool, true, false, count_by, List, ◌∷◌, Some}
-use Rattle.pp_closings_law.specs.Sides.{OfSides, ShowsSides}
+use Rattle.pp_turns_law.specs.Sides.{OfSides, ShowsSides}
 use Rattle.pp_desk.specs.Closings.{Sides}
 use Rattle.pp_desk.specs.Replies.{EndsReplies}
 use Rattle.pp_law.specs.After.{gone}

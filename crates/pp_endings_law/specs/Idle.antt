@@ -1,6 +1,6 @@
 -- Connections to origins that did nothing while they were waited for are closed, as the law says (ours).
 use Rattle.std.specs.Prelude.{◌≡◌, ℕ, map, Some}
-use Rattle.pp_closings_law.specs.Sides.{OfSides, ShowsSides}
+use Rattle.pp_turns_law.specs.Sides.{OfSides, ShowsSides}
 use Rattle.pp_desk.specs.Origins.{without_idle, without_idle_on}
 use Rattle.pp_law.specs.Connections.{conn, each_conn}
 use Rattle.pp_law.specs.State.{State, Conn}

@@ -8,9 +8,9 @@
 use Rattle.std.specs.Prelude.{◌≡◌, ◌≤◌, ◌+◌, ◌-◌, ◌^◌, ◌==◌, ℕ, true, false, count_by, is_ok, length, slice_get, List, Some, None}
 use Rattle.pp_cache.specs.Bounds.{IsBounded}
 use Rattle.pp_client.specs.Replies.{is_said}
-use Rattle.pp_closings_law.specs.Sides.{MayClose, OfSides, ShowsSides}
-use Rattle.pp_decides_law.specs.Decides.{IsAtPlace}
-use Rattle.pp_decides_law.specs.Useless.{AllFollow}
+use Rattle.pp_turns_law.specs.Sides.{MayClose, OfSides, ShowsSides}
+use Rattle.pp_turns_law.specs.Decides.{IsAtPlace}
+use Rattle.pp_turns_law.specs.Useless.{AllFollow}
 use Rattle.pp_desk.specs.Closings.{KeepsDesk, Sides, sides}
 use Rattle.pp_desk.specs.Replies.{EndsReplies}
 use Rattle.pp_desk.specs.declared.desk.Desk.{Desk}

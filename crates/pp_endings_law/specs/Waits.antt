@@ -18,7 +18,7 @@ use Rattle.pp_state.specs.Unseen.{all_rested}
 use Rattle.pp_state.specs.declared.state.State.{State as Turn}
 use Rattle.pp_states_law.specs.Decisions.{AreApart}
 use Rattle.pp_states_law.specs.States.{OfStates, ShowsState}
-use Rattle.pp_steps_law.specs.Steps.{ShowsSteps}
+use Rattle.pp_states_law.specs.Steps.{ShowsSteps}
 use Rattle.pp_turns_law.specs.Marks.{AreLoud, with_rested}
 use Rattle.pp_turns_law.specs.Wants.{ShowsEnd}
 use Rattle.pp_wants.specs.Awaited.{is_asked, is_read}

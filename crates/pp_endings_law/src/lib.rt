@@ -2,7 +2,7 @@
 //!
 //! `specs/Replies.antt` says of which clients the replies are over, which of them are closed, and who goes on to the next request: several at
 //! once where one read brought the ends of several. `specs/Idle.antt` says of which connections to origins the clock ends the patience. The
-//! relation is that of `pp_closings_law`.
+//! relation is that of `pp_turns_law`.
 //!
 //! To the layer above: each equation is the clause of a function that does nothing. It is one part of the proof that the program
 //! obeys the law: nothing is said here of a turn in which memory was refused for a row. The words of the program stand in `pp_desk`,

@@ -3,8 +3,8 @@ use Rattle.std.proofs.Common.{◌≡◌, ◌<◌, refl, sym, subst, ap, ◌∙�
 use Rattle.std.specs.Prelude.{slice_get, slice_set}
 use Rattle.pp_cache.specs.Memory.{Memory}
 use Rattle.pp_cache_law.proofs.Numbers.{is_same, some_is}
-use Rattle.pp_decides_law.proofs.Changed.{get_set}
-use Rattle.pp_decides_law.proofs.Regained.{get_other}
+use Rattle.pp_turns_law.proofs.Changed.{get_set}
+use Rattle.pp_turns_law.proofs.Regained.{get_other}
 use Rattle.pp_endings_law.proofs.Walk.{as_many}
 use Rattle.pp_flow.specs.Changes.{Exchanges}
 use Rattle.pp_flow_law.proofs.Entries.{none_some}
@@ -24,7 +24,7 @@ use Rattle.pp_state.proofs.SeatsLemmas.{changed_numbers, mapped_numbers}
 use Rattle.pp_state.specs.Ends.{Parts, numbers_of, on_seat, on_seat_where, parts}
 use Rattle.pp_state.specs.declared.state.State.{State as Turn}
 use Rattle.pp_turns_law.specs.Firsts.{AreAwake, IsAsleep}
-use Rattle.pp_steps_law.specs.Told.{IsTold}
+use Rattle.pp_states_law.specs.Told.{IsTold}
 use Rattle.pp_turns_law.specs.Rows.{AreReady, IsReady}
 use Rattle.pp_turns_law.specs.Turns.{IsFollowing}
 

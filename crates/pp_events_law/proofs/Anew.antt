@@ -1,7 +1,7 @@
 -- Attempts count anew: the turn stands behind it as before, and in the law it is no matter whether before or behind a mark.
 use Rattle.std.proofs.Common.{◌≡◌, refl, ap, ap₂, ◌∙◌, ℕ, Bool, true, false, cond, map, List, [], ◌∷◌}
 use Rattle.pp_cache.specs.Memory.{Memory}
-use Rattle.pp_closings_law.specs.Sides.{MayClose}
+use Rattle.pp_turns_law.specs.Sides.{MayClose}
 use Rattle.pp_law.specs.Connections.{anew, is_client, is_conn, on_client, on_conn}
 use Rattle.pp_law.specs.Lists.{change}
 use Rattle.pp_law.specs.Replies.{is_regained, regained, regained_by}
@@ -13,9 +13,9 @@ use Rattle.pp_seats.specs.declared.seat.Course.TheVariants.{Trying as TryingAnew
 use Rattle.pp_seats.specs.declared.seat.Seat.{Seat}
 use Rattle.pp_seats_law.specs.Fates.{is_refused}
 use Rattle.pp_state.specs.Ends.{Parts, all_regained, is_regained as is_regained_seat, on_seat, regained as regained_seat}
-use Rattle.pp_steps_law.proofs.Kept.{GoesThrough}
-use Rattle.pp_steps_law.specs.Charges.{GoesOn}
-use Rattle.pp_steps_law.specs.Losses.{IsComing}
+use Rattle.pp_states_law.proofs.Kept.{GoesThrough}
+use Rattle.pp_states_law.specs.Charges.{GoesOn}
+use Rattle.pp_states_law.specs.Losses.{IsComing}
 use Rattle.pp_events_law.proofs.Alike.{AreAlike, IsAlike, itself, none, on_one, then}
 use Rattle.pp_events_law.proofs.Standing.{go_through}
 

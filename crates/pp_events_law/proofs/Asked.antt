@@ -7,7 +7,7 @@ use Rattle.std.specs.Prelude.{count_by, nat_eq, option_map}
 use Rattle.pp_cache_law.proofs.Finds.{find_mapped, find_passes}
 use Rattle.pp_cache_law.proofs.Numbers.{is_same, some_is}
 use Rattle.pp_cache_law.specs.Pairs.{AreBoth}
-use Rattle.pp_closings_law.specs.Sides.{AreOrderly, MayClose}
+use Rattle.pp_turns_law.specs.Sides.{AreOrderly, MayClose}
 use Rattle.pp_endings_law.proofs.IdleOnes.{owing}
 use Rattle.pp_flow.specs.Changes.{Exchanges, entry_of}
 use Rattle.pp_flow.specs.declared.entry.Entry.{Entry}
@@ -18,10 +18,10 @@ use Rattle.pp_law.specs.Lists.{Bytes, first_some}
 use Rattle.pp_law.specs.State.{State, Client, Conn, Exchange}
 use Rattle.pp_seats_law.specs.Exchanges.{ShowsExchange}
 use Rattle.pp_state.specs.Asking.{is_being_asked, is_left}
-use Rattle.pp_steps_law.proofs.Kept.{GoesThrough}
-use Rattle.pp_steps_law.specs.Charges.{GoesOn}
-use Rattle.pp_steps_law.specs.Lines.{AllGo}
-use Rattle.pp_steps_law.specs.Losses.{IsComing}
+use Rattle.pp_states_law.proofs.Kept.{GoesThrough}
+use Rattle.pp_states_law.specs.Charges.{GoesOn}
+use Rattle.pp_states_law.specs.Lines.{AllGo}
+use Rattle.pp_states_law.specs.Losses.{IsComing}
 use Rattle.pp_events_law.proofs.Standing.{go_through}
 
 -- ---- the exchange that is asked next

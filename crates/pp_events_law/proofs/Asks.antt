@@ -10,9 +10,9 @@ use Rattle.pp_cache_law.proofs.Finds.{find_passes}
 use Rattle.pp_cache_law.proofs.Numbers.{is_same, some_is}
 use Rattle.pp_cache_law.specs.Pairs.{AreBoth}
 use Rattle.pp_client.specs.Requests.{body_in}
-use Rattle.pp_closings_law.proofs.Peers.{HasPeer, linked}
-use Rattle.pp_decides_law.proofs.Changed.{get_set}
-use Rattle.pp_decides_law.proofs.Regained.{get_other}
+use Rattle.pp_turns_law.proofs.Peers.{HasPeer, linked}
+use Rattle.pp_turns_law.proofs.Changed.{get_set}
+use Rattle.pp_turns_law.proofs.Regained.{get_other}
 use Rattle.pp_desk.proofs.ClosingLemmas.{piped_numbers}
 use Rattle.pp_desk.specs.Calls.{Took, write_log}
 use Rattle.pp_desk.specs.Closings.{Sides, peer_numbers, sides}
@@ -62,11 +62,11 @@ use Rattle.pp_state.specs.declared.state.State.{State as Turn}
 use Rattle.pp_states_law.proofs.Taken.{bodies}
 use Rattle.pp_states_law.proofs.Texts.{texts}
 use Rattle.pp_states_law.specs.Askings.{IsNext}
-use Rattle.pp_steps_law.proofs.Places.{HasSeat, at_place, has_seat, no_place, numbers_set}
-use Rattle.pp_steps_law.proofs.Told.{told_asked, told_next}
+use Rattle.pp_states_law.proofs.Places.{HasSeat, at_place, has_seat, no_place, numbers_set}
+use Rattle.pp_states_law.proofs.Told.{told_asked, told_next}
 use Rattle.pp_states_law.proofs.Lines.{same_itself}
-use Rattle.pp_steps_law.specs.Charges.{GoesOn}
-use Rattle.pp_steps_law.specs.Steps.{ShowsSteps, whole}
+use Rattle.pp_states_law.specs.Charges.{GoesOn}
+use Rattle.pp_states_law.specs.Steps.{ShowsSteps, whole}
 use Rattle.pp_text.specs.Bytes.{is_empty}
 use Rattle.pp_turns_law.specs.Firsts.{AreAwake, IsAsleep}
 use Rattle.pp_turns_law.specs.Turns.{IsFollowing}

@@ -1,7 +1,7 @@
 -- Where replies end, clients at other places stay as they are, and connections keep their numbers.
 use Rattle.std.proofs.Common.{◌≡◌, refl, sym, subst, ap, ◌∙◌, ℕ, Bool, true, false, ◌==◌, cond, List, [], ◌∷◌, Option, Some, None, option_map}
 use Rattle.std.specs.Prelude.{slice_get, slice_set}
-use Rattle.pp_decides_law.proofs.Regained.{get_other}
+use Rattle.pp_turns_law.proofs.Regained.{get_other}
 use Rattle.pp_desk.proofs.ClosingLemmas.{unasked_numbers}
 use Rattle.pp_desk.specs.Closings.{Sides, closed_client, closing_at, left_at, left_by_errand, left_own, peer_numbers, place_on, unasked_at, with_parts, withdrawn}
 use Rattle.pp_desk.specs.Replies.{EndsBy, EndsReplies, EndsSaid, EndsSaidOf, EndsWhere, IsLookedAt, account_renewed, at_next, closes_in, is_finished_in, without_finished, without_finished_at}

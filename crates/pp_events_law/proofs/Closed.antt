@@ -28,7 +28,7 @@ use Rattle.pp_state.specs.Ends.{Parts, asked_elsewhere, charged, charged_at, cha
 use Rattle.pp_state.specs.Asking.{owed_answer}
 use Rattle.pp_state.specs.Keys.{key_of}
 use Rattle.pp_state.specs.Lines.{first_on, lost_line}
-use Rattle.pp_steps_law.proofs.Told.{there_before}
+use Rattle.pp_states_law.proofs.Told.{there_before}
 use Rattle.pp_events_law.proofs.Alike.{AreAlike, IsAlike, WasAlike, itself, map_was, none, on_one, on_some, then}
 
 -- ---- a row is cleared

@@ -1,6 +1,6 @@
 -- Attempts count anew behind an event, and the turn stands at the law's state.
 use Rattle.std.proofs.Common.{◌≡◌, refl, sym, subst, ap, ap₂, ◌∙◌, ℕ, List}
-use Rattle.pp_decides_law.proofs.Regained.{regains}
+use Rattle.pp_turns_law.proofs.Regained.{regains}
 use Rattle.pp_desk.specs.Closings.{peer_numbers}
 use Rattle.pp_desk.specs.declared.desk.Desk.{Desk}
 use Rattle.pp_flow_law.specs.Tables.{none_leaves}

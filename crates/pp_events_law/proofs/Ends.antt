@@ -8,11 +8,11 @@ use Rattle.pp_cache.specs.Bounds.{IsBounded}
 use Rattle.pp_cache.specs.Memory.{Memory}
 use Rattle.pp_cache_law.proofs.Numbers.{is_same, some_is}
 use Rattle.pp_client.specs.Replies.{Reply, is_said}
-use Rattle.pp_closings_law.specs.Sides.{MayClose, ShowsSides}
-use Rattle.pp_decides_law.proofs.Changed.{get_set}
-use Rattle.pp_decides_law.proofs.Regained.{get_other}
-use Rattle.pp_decides_law.proofs.Sitting.{is_at, shown_at}
-use Rattle.pp_decides_law.specs.Decides.{IsAtPlace}
+use Rattle.pp_turns_law.specs.Sides.{MayClose, ShowsSides}
+use Rattle.pp_turns_law.proofs.Changed.{get_set}
+use Rattle.pp_turns_law.proofs.Regained.{get_other}
+use Rattle.pp_turns_law.proofs.Sitting.{is_at, shown_at}
+use Rattle.pp_turns_law.specs.Decides.{IsAtPlace}
 use Rattle.pp_desk.specs.Closings.{KeepsDesk, Sides, peer_numbers, sides}
 use Rattle.pp_desk.specs.Replies.{EndsReplies}
 use Rattle.pp_desk.specs.declared.desk.Desk.{Desk}
@@ -38,7 +38,7 @@ use Rattle.pp_seats_law.specs.Seats.{ShowsSeat}
 use Rattle.pp_state.specs.Ends.{Parts, numbers_of, parts}
 use Rattle.pp_state.specs.Numbers.{with_number}
 use Rattle.pp_state.specs.declared.state.State.{State as Turn}
-use Rattle.pp_steps_law.specs.Steps.{ShowsSteps}
+use Rattle.pp_states_law.specs.Steps.{ShowsSteps}
 use Rattle.pp_turns_law.proofs.Looked.{awake_loud, roused}
 use Rattle.pp_turns_law.specs.Firsts.{AreAwake}
 use Rattle.pp_turns_law.specs.Marks.{AreLoud}

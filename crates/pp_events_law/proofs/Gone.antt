@@ -3,9 +3,9 @@ use Rattle.std.proofs.Common.{◌≡◌, ◌≤◌, refl, sym, subst, ap, ◌∙
 use Rattle.std.specs.Prelude.{count_by, slice_get}
 use Rattle.pp_cache.specs.Bounds.{IsBounded}
 use Rattle.pp_client.specs.Replies.{Reply, is_said}
-use Rattle.pp_closings_law.specs.Sides.{ShowsSides}
-use Rattle.pp_decides_law.proofs.Sitting.{is_at, shown_at}
-use Rattle.pp_decides_law.specs.Decides.{IsAtPlace}
+use Rattle.pp_turns_law.specs.Sides.{ShowsSides}
+use Rattle.pp_turns_law.proofs.Sitting.{is_at, shown_at}
+use Rattle.pp_turns_law.specs.Decides.{IsAtPlace}
 use Rattle.pp_desk.proofs.ClosingLemmas.{closed_numbers, piped_numbers}
 use Rattle.pp_desk.specs.Closings.{KeepsDesk, Sides, closed_conn, peer_numbers, sides}
 use Rattle.pp_desk.specs.Replies.{EndsReplies}
@@ -39,7 +39,7 @@ use Rattle.pp_proxy.specs.Moving.{Moving, moving}
 use Rattle.pp_seats.specs.declared.seat.Seat.{Seat}
 use Rattle.pp_seats_law.specs.Seats.{ShowsSeat}
 use Rattle.pp_state.specs.Ends.{numbers_of, parts}
-use Rattle.pp_steps_law.specs.Steps.{ShowsSteps}
+use Rattle.pp_states_law.specs.Steps.{ShowsSteps}
 use Rattle.pp_turns_law.specs.Firsts.{AreAwake, IsAsleep}
 use Rattle.pp_turns_law.specs.Turns.{IsFollowing}
 use Rattle.pp_events_law.proofs.Alike.{AreAlike, WasAlike, as_long, silent_as}

@@ -22,7 +22,7 @@ use Rattle.pp_proxy.specs.Handling.{Rouses}
 use Rattle.pp_proxy.specs.Moving.{Turning}
 use Rattle.pp_state.specs.Ends.{numbers_of, parts}
 use Rattle.pp_state.specs.declared.state.State.{State as Turn}
-use Rattle.pp_steps_law.specs.Steps.{ShowsSteps}
+use Rattle.pp_states_law.specs.Steps.{ShowsSteps}
 use Rattle.pp_turns_law.specs.Firsts.{AreAwake}
 use Rattle.pp_turns_law.specs.Marks.{AreLoud}
 

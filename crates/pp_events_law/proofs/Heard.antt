@@ -1,6 +1,6 @@
 -- What a client sent, or that it sends no more, changes of it nothing that its reply, its exchange and its closing rest on.
 use Rattle.std.proofs.Common.{◌≡◌, refl, ap, ◌∙◌, ℕ, ◌-◌, true, false, ◌++◌, drop, length, Option}
-use Rattle.pp_closings_law.specs.Sides.{MayClose}
+use Rattle.pp_turns_law.specs.Sides.{MayClose}
 use Rattle.pp_law.specs.Connections.{is_client, on_client}
 use Rattle.pp_law.specs.Hearing.{fronted, heard_by, what_counts, with_front}
 use Rattle.pp_law.specs.Lists.{Bytes, is_some_with}
@@ -13,7 +13,7 @@ use Rattle.pp_seats.specs.declared.front.Front.{Front as SeatFront}
 use Rattle.pp_seats.specs.declared.front.Front.TheVariants.{NoHeadYet as NoneYet, NoHead as NoneThere, Request}
 use Rattle.pp_seats.specs.declared.seat.Seat.{Seat}
 use Rattle.pp_seats_law.specs.Fates.{is_refused}
-use Rattle.pp_steps_law.proofs.Kept.{GoesThrough}
+use Rattle.pp_states_law.proofs.Kept.{GoesThrough}
 use Rattle.pp_events_law.proofs.Standing.{go_through}
 use Rattle.pp_events_law.proofs.Touched.{through_if}
 

@@ -32,9 +32,9 @@ use Rattle.pp_state.specs.Places.{IsChangedAt, IsChangedIn}
 use Rattle.pp_state.specs.declared.state.State.{State as Turn}
 use Rattle.pp_states_law.proofs.Changed.{changes}
 use Rattle.pp_states_law.specs.Clients.{FollowsOn}
-use Rattle.pp_steps_law.proofs.Kept.{GoesThrough}
-use Rattle.pp_steps_law.proofs.Places.{at_place, numbers_set}
-use Rattle.pp_steps_law.specs.Steps.{ShowsSteps, whole}
+use Rattle.pp_states_law.proofs.Kept.{GoesThrough}
+use Rattle.pp_states_law.proofs.Places.{at_place, numbers_set}
+use Rattle.pp_states_law.specs.Steps.{ShowsSteps, whole}
 use Rattle.pp_talk.specs.Talking.{IsReadFrom, IsReadAt, TakesIn, heard_by as heard_at}
 use Rattle.pp_world.specs.Connections.{side_of}
 use Rattle.pp_world.specs.Log.{AppendsAll, Log}

@@ -7,7 +7,7 @@ use Rattle.pp_law.specs.State.{Client, Course, Passed, Reply, Answering, Passes}
 use Rattle.pp_law.specs.Table.{follows}
 use Rattle.pp_pass.specs.Pipe.{without_first}
 use Rattle.pp_seats_law.specs.Fates.{is_refused}
-use Rattle.pp_steps_law.proofs.Kept.{GoesThrough}
+use Rattle.pp_states_law.proofs.Kept.{GoesThrough}
 use Rattle.pp_text.specs.Bytes.{is_empty}
 
 abbrev passed_on : ℕ → Client → Client

@@ -9,14 +9,14 @@ use Rattle.pp_client.specs.Clients.{Client as ClientSide}
 use Rattle.pp_client.specs.Replies.{ended as ended_reply, has_begun as is_said_to, is_said, left_next, said}
 use Rattle.pp_client.specs.Requests.{answered}
 use Rattle.pp_clients_obey.proofs.Walks.{end_one, found_in}
-use Rattle.pp_closings_law.proofs.Leaving.{leaves_client}
-use Rattle.pp_closings_law.proofs.Own.{its_number as exchange_number}
-use Rattle.pp_closings_law.proofs.Quit.{quit, quit_number, same_client}
-use Rattle.pp_closings_law.specs.Clients.{MayBeClosed}
-use Rattle.pp_closings_law.specs.Sides.{ShowsSides}
-use Rattle.pp_decides_law.proofs.Changed.{get_set, set_set}
-use Rattle.pp_decides_law.proofs.Sitting.{is_at, on_seat_is, seat_again, shown_at}
-use Rattle.pp_decides_law.specs.Decides.{IsAtPlace}
+use Rattle.pp_turns_law.proofs.Leaving.{leaves_client}
+use Rattle.pp_turns_law.proofs.Own.{its_number as exchange_number}
+use Rattle.pp_turns_law.proofs.Quit.{quit, quit_number, same_client}
+use Rattle.pp_turns_law.specs.Clients.{MayBeClosed}
+use Rattle.pp_turns_law.specs.Sides.{ShowsSides}
+use Rattle.pp_turns_law.proofs.Changed.{get_set, set_set}
+use Rattle.pp_turns_law.proofs.Sitting.{is_at, on_seat_is, seat_again, shown_at}
+use Rattle.pp_turns_law.specs.Decides.{IsAtPlace}
 use Rattle.pp_desk.specs.Closings.{Sides, closed_client, with_parts}
 use Rattle.pp_desk.specs.Replies.{EndsBy, EndsSaidOf, EndsWhere, account_renewed, closes_in}
 use Rattle.pp_endings_law.proofs.Closes.{follows_there, set_itself}
@@ -50,8 +50,8 @@ use Rattle.pp_seats_law.specs.Seats.{ShowsOpen, ShowsSeat}
 use Rattle.pp_state.specs.Ends.{AreInOrder, Parts, numbers_of, on_seat, source_of}
 use Rattle.pp_state.specs.Hearing.{is_said_in, is_under_way, with_end}
 use Rattle.pp_states_law.proofs.Changed.{changes}
-use Rattle.pp_steps_law.proofs.Places.{numbers_set}
-use Rattle.pp_steps_law.specs.Steps.{ShowsSteps, whole}
+use Rattle.pp_states_law.proofs.Places.{numbers_set}
+use Rattle.pp_states_law.specs.Steps.{ShowsSteps, whole}
 use Rattle.pp_turns_law.specs.Turns.{IsFollowing}
 
 -- behind the step of that client; what is left of it in the law is not over

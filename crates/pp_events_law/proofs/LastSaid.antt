@@ -7,7 +7,7 @@ use Rattle.pp_client.specs.declared.reply.Begin.TheVariants.{Page, Instance as O
 use Rattle.pp_client.specs.declared.reply.Stage.{Stage as SaidStage}
 use Rattle.pp_client.specs.declared.reply.Stage.TheVariants.{Due, Begun}
 use Rattle.pp_clients_obey.proofs.Walks.{change_twice}
-use Rattle.pp_closings_law.proofs.Quit.{closing_client}
+use Rattle.pp_turns_law.proofs.Quit.{closing_client}
 use Rattle.pp_desk.specs.Replies.{account_renewed}
 use Rattle.pp_endings_law.proofs.Kept.{KeepsNumber}
 use Rattle.pp_endings_law.proofs.Law.{Steps, WasAsk, next_state}

@@ -4,9 +4,9 @@ use Rattle.std.specs.Prelude.{slice_get, slice_set}
 use Rattle.pp_cache.specs.Memory.{Memory}
 use Rattle.pp_cache_law.proofs.Numbers.{is_same, some_is}
 use Rattle.pp_client.specs.Clients.{said_by}
-use Rattle.pp_decides_law.proofs.Changed.{get_set}
-use Rattle.pp_decides_law.proofs.Refused.{left_stands}
-use Rattle.pp_decides_law.proofs.Regained.{get_other}
+use Rattle.pp_turns_law.proofs.Changed.{get_set}
+use Rattle.pp_turns_law.proofs.Refused.{left_stands}
+use Rattle.pp_turns_law.proofs.Regained.{get_other}
 use Rattle.pp_desk.specs.Closings.{Sides, closed_client, closing_at, left_at, left_by_errand, left_own, with_parts, withdrawn}
 use Rattle.pp_desk.specs.Replies.{EndsBy, EndsReplies, EndsSaid, EndsSaidOf, EndsWhere, IsLookedAt, account_renewed, at_next, closes_in, is_finished_in, without_finished, without_finished_at}
 use Rattle.pp_flow.specs.Changes.{Exchanges, entry_of}

@@ -45,7 +45,7 @@ use Rattle.pp_shelf_law.specs.Shelf.{IsResting, ShowsShelf}
 use Rattle.pp_shelf_law.specs.Takings.{LeadsTo}
 use Rattle.pp_state.specs.Ends.{parts}
 use Rattle.pp_state.specs.declared.state.State.{State as Turn}
-use Rattle.pp_steps_law.specs.Told.{IsTold}
+use Rattle.pp_states_law.specs.Told.{IsTold}
 use Rattle.pp_store.specs.Changes.{lost}
 use Rattle.pp_store.specs.Kept.{KeptMap}
 use Rattle.pp_talk.specs.Loading.{with_none_kept}

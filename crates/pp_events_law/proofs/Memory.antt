@@ -32,8 +32,8 @@ use Rattle.pp_state.specs.Ends.{Parts, parts}
 use Rattle.pp_state.specs.declared.state.State.{State as Turn}
 use Rattle.pp_states_law.proofs.Asked.{all_as, frames, itself}
 use Rattle.pp_states_law.specs.Asks.{IsAskedAs}
-use Rattle.pp_steps_law.proofs.Told.{Stands, are_told_on, told_next}
-use Rattle.pp_steps_law.specs.Steps.{ShowsSteps}
+use Rattle.pp_states_law.proofs.Told.{Stands, are_told_on, told_next}
+use Rattle.pp_states_law.specs.Steps.{ShowsSteps}
 use Rattle.pp_turns_law.specs.Turns.{ShowsTurn}
 use Rattle.pp_valid.specs.declared.version.Version.{Version}
 use Rattle.pp_events_law.specs.ReadsBack.{IsLoaded}

@@ -5,7 +5,7 @@ use Rattle.std.specs.List.{All}
 use Rattle.std.specs.Prelude.{slice_index}
 use Rattle.pp_cache_law.proofs.Finds.{find_joined, find_passes, first_of_two}
 use Rattle.pp_cache_law.proofs.Numbers.{some_is}
-use Rattle.pp_closings_law.specs.Log.{AreLinked}
+use Rattle.pp_turns_law.specs.Log.{AreLinked}
 use Rattle.pp_flow_law.proofs.Entries.{none_some}
 use Rattle.pp_flow_law.specs.Tables.{AreGiven}
 use Rattle.pp_links.specs.Links.{Link, is_link}

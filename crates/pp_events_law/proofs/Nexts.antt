@@ -33,10 +33,10 @@ use Rattle.pp_seats_law.specs.Clients.{IsAt, IsFound}
 use Rattle.pp_seats_law.specs.Seats.{ShowsOpen, ShowsSeat}
 use Rattle.pp_seats_law.specs.Words.{HasSource, ShowsNext}
 use Rattle.pp_state.specs.declared.state.State.{State as Turn}
-use Rattle.pp_steps_law.proofs.Places.{at_place}
+use Rattle.pp_states_law.proofs.Places.{at_place}
 use Rattle.pp_store.specs.Kept.{KeptMap}
 use Rattle.pp_turns_law.proofs.Dry.{at_body}
-use Rattle.pp_turns_law.proofs.Following.{has_source, is_next, none_some}
+use Rattle.pp_turns_law.proofs.Follows.{has_source, is_next, none_some}
 use Rattle.pp_turns_law.specs.Nexts.{IsNext}
 use Rattle.pp_events_law.specs.ToLoad.{IsToLoad, StandsInEvent}
 

@@ -6,8 +6,8 @@ use Rattle.pp_cache_law.proofs.Numbers.{is_same, same_test, some_is}
 use Rattle.pp_client.specs.Clients.{said_by as side_said}
 use Rattle.pp_client.specs.Replies.{has_begun as is_said_to, is_said}
 use Rattle.pp_clients_obey.proofs.Walks.{Changes, end_none, found_in, is_among, walk}
-use Rattle.pp_closings_law.specs.Sides.{ShowsSides}
-use Rattle.pp_decides_law.proofs.Sitting.{is_at, on_seat_is}
+use Rattle.pp_turns_law.specs.Sides.{ShowsSides}
+use Rattle.pp_turns_law.proofs.Sitting.{is_at, on_seat_is}
 use Rattle.pp_desk.specs.Closings.{Sides, with_parts}
 use Rattle.pp_desk.specs.Replies.{EndsSaid, EndsSaidOf, EndsWhere}
 use Rattle.pp_endings_law.proofs.Closes.{set_itself}

@@ -3,8 +3,8 @@ use Rattle.std.proofs.Common.{◌≡◌, refl, sym, subst, ap, ◌∙◌, ℕ, t
 use Rattle.pp_cache.specs.Bounds.{IsBounded}
 use Rattle.pp_cache.specs.Memory.{Memory}
 use Rattle.pp_cache_law.proofs.Finds.{find_passes}
-use Rattle.pp_closings_law.proofs.Peers.{HasPeer, find_set, linked}
-use Rattle.pp_closings_law.specs.Sides.{MayClose}
+use Rattle.pp_turns_law.proofs.Peers.{HasPeer, find_set, linked}
+use Rattle.pp_turns_law.specs.Sides.{MayClose}
 use Rattle.pp_desk.proofs.ClosingLemmas.{changed_numbers}
 use Rattle.pp_desk.specs.Closings.{Sides, peer_numbers, sides}
 use Rattle.pp_desk.specs.Marks.{marked_peer, touched}
@@ -26,8 +26,8 @@ use Rattle.pp_proxy.specs.Moving.{Turning}
 use Rattle.pp_state.specs.Ends.{numbers_of, parts, place_of}
 use Rattle.pp_states_law.proofs.Connected.{reached as reached_shown}
 use Rattle.pp_states_law.proofs.Rested.{changed_twice}
-use Rattle.pp_steps_law.proofs.Told.{told_next}
-use Rattle.pp_steps_law.specs.Steps.{ShowsSteps, whole}
+use Rattle.pp_states_law.proofs.Told.{told_next}
+use Rattle.pp_states_law.specs.Steps.{ShowsSteps, whole}
 use Rattle.pp_turns_law.specs.Rows.{AreReady}
 use Rattle.pp_world.specs.declared.event.Event.TheVariants.{Reached as NowReached}
 use Rattle.pp_world.specs.declared.happening.Happening.TheVariants.{Reached}

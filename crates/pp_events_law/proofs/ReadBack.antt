@@ -30,7 +30,7 @@ use Rattle.pp_shelf_law.specs.Loads.{IsToLoad as IsLoadedNext}
 use Rattle.pp_desk.specs.Anything.{anything}
 use Rattle.pp_state.specs.Bodies.{IsButForCells, with_bytes, with_use}
 use Rattle.pp_state.specs.declared.state.State.{State as Turn}
-use Rattle.pp_steps_law.specs.Told.{IsTold}
+use Rattle.pp_states_law.specs.Told.{IsTold}
 use Rattle.pp_store.specs.Held.{Holds}
 use Rattle.pp_store.specs.Kept.{Kept, KeptMap, kept_of, row_of}
 use Rattle.pp_store.specs.Loads.{GivesChunk, chunk_len as chunk_of}

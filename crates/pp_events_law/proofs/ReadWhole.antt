@@ -18,7 +18,7 @@ use Rattle.pp_seats.specs.Seats.{finished_in}
 use Rattle.pp_seats.specs.declared.front.Front.{Front}
 use Rattle.pp_seats.specs.declared.seat.Seat.{Seat}
 use Rattle.pp_state.specs.Ends.{numbers_of, parts, place_of}
-use Rattle.pp_steps_law.proofs.Places.{HasSeat, at_place, has_seat}
+use Rattle.pp_states_law.proofs.Places.{HasSeat, at_place, has_seat}
 use Rattle.pp_world.specs.declared.event.Event.TheVariants.{Readable}
 use Rattle.pp_world.specs.declared.happening.Happening.TheVariants.{CanRead}
 use Rattle.pp_events_law.proofs.Alike.{AreAlike, IsAlike, WasAlike}

@@ -1,12 +1,12 @@
 -- Each client that goes on can be decided behind an event, where what it follows is there.
 use Rattle.std.proofs.Common.{◌≡◌, ◌<◌, sym, subst, ap, ◌∙◌, ℕ}
-use Rattle.pp_decides_law.specs.Regains.{AllFollow}
+use Rattle.pp_turns_law.specs.Regains.{AllFollow}
 use Rattle.pp_law.specs.State.{State}
 use Rattle.pp_proxy.specs.Moving.{Turning}
 use Rattle.pp_seats.specs.Dues.{refused_in}
 use Rattle.pp_seats.specs.declared.front.Front.{Front}
 use Rattle.pp_state.specs.Ends.{parts}
-use Rattle.pp_steps_law.specs.Told.{IsTold}
+use Rattle.pp_states_law.specs.Told.{IsTold}
 use Rattle.pp_turns_law.specs.Rows.{IsReady}
 use Rattle.pp_events_law.proofs.Alike.{AreAlike, WasAlike}
 use Rattle.pp_events_law.proofs.Left.{AreLeft, WasLeft}

@@ -4,7 +4,7 @@ use Rattle.pp_cache_law.proofs.Numbers.{some_is}
 use Rattle.pp_client.specs.Requests.{body_in}
 use Rattle.pp_clients_obey.proofs.Walks.{Rests, close_none, end_none, rests}
 use Rattle.pp_clients_obey.specs.Ending.{IsSettled}
-use Rattle.pp_closings_law.proofs.Quit.{quit}
+use Rattle.pp_turns_law.proofs.Quit.{quit}
 use Rattle.pp_events_law.specs.Hears.{AreSettled}
 use Rattle.pp_law.specs.Connections.{client, each_client, is_client}
 use Rattle.pp_law.specs.Lists.{Bytes}

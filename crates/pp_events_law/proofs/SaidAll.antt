@@ -8,9 +8,9 @@ use Rattle.pp_clients_obey.proofs.Hears.{leads_on}
 use Rattle.pp_clients_obey.proofs.Says.{said_is}
 use Rattle.pp_clients_obey.specs.Ending.{GoesOn}
 use Rattle.pp_clients_obey.specs.Saying.{OwesWrite, told_to}
-use Rattle.pp_decides_law.proofs.Regained.{get_other}
-use Rattle.pp_decides_law.proofs.Sitting.{is_at, shown_at}
-use Rattle.pp_decides_law.specs.Decides.{IsAtPlace}
+use Rattle.pp_turns_law.proofs.Regained.{get_other}
+use Rattle.pp_turns_law.proofs.Sitting.{is_at, shown_at}
+use Rattle.pp_turns_law.specs.Decides.{IsAtPlace}
 use Rattle.pp_desk.specs.Calls.{write_log}
 use Rattle.pp_desk.specs.Closings.{Sides, sides, with_parts}
 use Rattle.pp_desk.specs.Replies.{EndsReplies, EndsSaidOf}

@@ -3,9 +3,9 @@ use Rattle.std.proofs.Common.{◌≡◌, inl, inr, refl, sym, subst, ap, ◌∙�
 use Rattle.std.specs.Prelude.{slice_get}
 use Rattle.pp_cache_law.proofs.Numbers.{some_is}
 use Rattle.pp_cache_law.specs.Tables.{ShowsTable}
-use Rattle.pp_decides_law.proofs.StandingOn.{there_by}
-use Rattle.pp_decides_law.proofs.Sitting.{is_at}
-use Rattle.pp_decides_law.specs.Useless.{AllFollow}
+use Rattle.pp_turns_law.proofs.StandingOn.{there_by}
+use Rattle.pp_turns_law.proofs.Sitting.{is_at}
+use Rattle.pp_turns_law.specs.Useless.{AllFollow}
 use Rattle.pp_flow_law.specs.Tables.{none_leaves}
 use Rattle.pp_law.specs.Lists.{Bytes}
 use Rattle.pp_law.specs.Stages.{reply_of}
@@ -25,7 +25,7 @@ use Rattle.pp_seats_law.specs.Clients.{IsFound}
 use Rattle.pp_seats_law.specs.Replies.{ShowsStage, source_number}
 use Rattle.pp_seats_law.specs.Seats.{ShowsOpen}
 use Rattle.pp_state.specs.Ends.{Parts}
-use Rattle.pp_steps_law.specs.Steps.{ShowsSteps}
+use Rattle.pp_states_law.specs.Steps.{ShowsSteps}
 use Rattle.pp_turns_law.proofs.First.{IsShownAt, seat_shown}
 use Rattle.pp_turns_law.specs.Turns.{IsFollowing}
 use Rattle.pp_events_law.proofs.Alike.{AreAlike, WasAlike}

@@ -6,9 +6,9 @@ use Rattle.pp_cache.specs.Bounds.{IsBounded}
 use Rattle.pp_cache_law.proofs.Finds.{find_mapped}
 use Rattle.pp_cache_law.proofs.Numbers.{some_is}
 use Rattle.pp_cache_law.proofs.PairLemmas.{count_mapped_same}
-use Rattle.pp_closings_law.proofs.Orderly.{mapped}
-use Rattle.pp_closings_law.specs.Log.{AreLinked}
-use Rattle.pp_closings_law.specs.Sides.{AreOrderly, IsOrderly, MayClose}
+use Rattle.pp_turns_law.proofs.Orderly.{mapped}
+use Rattle.pp_turns_law.specs.Log.{AreLinked}
+use Rattle.pp_turns_law.specs.Sides.{AreOrderly, IsOrderly, MayClose}
 use Rattle.pp_desk.specs.Closings.{peer_numbers, sides}
 use Rattle.pp_desk.specs.declared.desk.Desk.{Desk}
 use Rattle.pp_endings_law.specs.Replies.{ShowsDesk}
@@ -27,12 +27,12 @@ use Rattle.pp_state.specs.Ends.{Parts, numbers_of, parts}
 use Rattle.pp_state.specs.declared.state.State.{State as Turn}
 use Rattle.pp_states_law.proofs.Framed.{states}
 use Rattle.pp_states_law.specs.Frames.{IsSameState}
-use Rattle.pp_steps_law.proofs.Kept.{GoesThrough}
-use Rattle.pp_steps_law.proofs.Told.{told_next}
-use Rattle.pp_steps_law.specs.Charges.{GoesOn}
-use Rattle.pp_steps_law.specs.Lines.{AllGo}
-use Rattle.pp_steps_law.specs.Losses.{IsComing}
-use Rattle.pp_steps_law.specs.Steps.{ShowsSteps, whole}
+use Rattle.pp_states_law.proofs.Kept.{GoesThrough}
+use Rattle.pp_states_law.proofs.Told.{told_next}
+use Rattle.pp_states_law.specs.Charges.{GoesOn}
+use Rattle.pp_states_law.specs.Lines.{AllGo}
+use Rattle.pp_states_law.specs.Losses.{IsComing}
+use Rattle.pp_states_law.specs.Steps.{ShowsSteps, whole}
 use Rattle.pp_turns_law.specs.Firsts.{AreAwake, IsAsleep}
 use Rattle.pp_turns_law.specs.Turns.{ShowsTurn}
 use Rattle.pp_world.specs.declared.happening.Happening.{Happening}

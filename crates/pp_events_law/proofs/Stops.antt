@@ -15,7 +15,7 @@ use Rattle.pp_proxy.specs.Handling.{IsSilent, Stops}
 use Rattle.pp_proxy.specs.Moving.{Turning}
 use Rattle.pp_state.specs.Ends.{numbers_of, parts}
 use Rattle.pp_state.specs.Numbers.{places}
-use Rattle.pp_steps_law.specs.Steps.{ShowsSteps}
+use Rattle.pp_states_law.specs.Steps.{ShowsSteps}
 use Rattle.pp_turns_law.proofs.Looked.{all_awake}
 use Rattle.pp_turns_law.specs.Rows.{AreReady}
 use Rattle.pp_world.specs.declared.event.Event.TheVariants.{Stop}

@@ -2,7 +2,7 @@
 use Rattle.std.proofs.Common.{◌≡◌, refl, sym, subst, ap, ap₂, ◌∙◌, ℕ, ◌-◌, Bool, true, false, ◌&&◌, ◌||◌, not, length, map, max, nat_le, List, [], ◌∷◌, Some}
 use Rattle.std.specs.Prelude.{slice_get}
 use Rattle.pp_cache.specs.Bounds.{IsBounded}
-use Rattle.pp_closings_law.specs.Sides.{MayClose, ShowsSides}
+use Rattle.pp_turns_law.specs.Sides.{MayClose, ShowsSides}
 use Rattle.pp_decide.specs.Patience.{is_leap as leaps_in_turn}
 use Rattle.pp_desk.specs.Closings.{Sides, peer_numbers, sides}
 use Rattle.pp_desk.specs.Marks.{marked_peers, marked_seat, marked_seats}
@@ -41,10 +41,10 @@ use Rattle.pp_states_law.proofs.Begun.{leaps}
 use Rattle.pp_states_law.proofs.Waited.{renewals}
 use Rattle.pp_states_law.specs.States.{Parts as Whole, ShowsState}
 use Rattle.pp_states_law.specs.Turns.{all_marked}
-use Rattle.pp_steps_law.proofs.Kept.{GoesThrough}
-use Rattle.pp_steps_law.specs.Charges.{GoesOn}
-use Rattle.pp_steps_law.specs.Losses.{IsComing}
-use Rattle.pp_steps_law.specs.Steps.{ShowsSteps, whole}
+use Rattle.pp_states_law.proofs.Kept.{GoesThrough}
+use Rattle.pp_states_law.specs.Charges.{GoesOn}
+use Rattle.pp_states_law.specs.Losses.{IsComing}
+use Rattle.pp_states_law.specs.Steps.{ShowsSteps, whole}
 use Rattle.pp_turns_law.proofs.Looked.{all_awake}
 use Rattle.pp_turns_law.proofs.Waiting.{waits_on}
 use Rattle.pp_turns_law.specs.Rows.{AreReady}

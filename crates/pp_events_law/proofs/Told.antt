@@ -15,12 +15,12 @@ use Rattle.pp_clients_obey.specs.Closing.{MayWrite}
 use Rattle.pp_clients_obey.specs.Ending.{IsSettled}
 use Rattle.pp_clients_obey.specs.Hearing.{Sits}
 use Rattle.pp_clients_obey.specs.Saying.{LeavesSome, OwesWrite, told_to}
-use Rattle.pp_closings_law.proofs.Quit.{quit, same_client}
-use Rattle.pp_closings_law.specs.Sides.{MayClose}
-use Rattle.pp_decides_law.proofs.Changed.{get_set}
-use Rattle.pp_decides_law.proofs.Regained.{get_other}
-use Rattle.pp_decides_law.proofs.Sitting.{is_at, shown_at}
-use Rattle.pp_decides_law.specs.Decides.{IsAtPlace}
+use Rattle.pp_turns_law.proofs.Quit.{quit, same_client}
+use Rattle.pp_turns_law.specs.Sides.{MayClose}
+use Rattle.pp_turns_law.proofs.Changed.{get_set}
+use Rattle.pp_turns_law.proofs.Regained.{get_other}
+use Rattle.pp_turns_law.proofs.Sitting.{is_at, shown_at}
+use Rattle.pp_turns_law.specs.Decides.{IsAtPlace}
 use Rattle.pp_desk.specs.Calls.{write_log}
 use Rattle.pp_desk.specs.Closings.{KeepsDesk, Sides, closed_client, peer_numbers, sides, with_parts}
 use Rattle.pp_desk.specs.Replies.{EndsReplies}
@@ -74,11 +74,11 @@ use Rattle.pp_seats_law.specs.Words.{HasSource, IsSameNext, ShowsNext}
 use Rattle.pp_state.specs.Ends.{AreInOrder, Parts, numbers_of, parts, source_of}
 use Rattle.pp_state.specs.declared.state.State.{State as Turn}
 use Rattle.pp_states_law.proofs.Changed.{changes}
-use Rattle.pp_steps_law.proofs.Places.{at_place, numbers_set}
-use Rattle.pp_steps_law.specs.Steps.{ShowsSteps, whole}
+use Rattle.pp_states_law.proofs.Places.{at_place, numbers_set}
+use Rattle.pp_states_law.specs.Steps.{ShowsSteps, whole}
 use Rattle.pp_talk.specs.Loading.{LoadsWhere, StaysAll}
 use Rattle.pp_talk.specs.Talking.{IsWritten, IsWrittenAt, offered, told_at, told_in, used_chunks}
-use Rattle.pp_turns_law.proofs.Following.{has_source, is_next}
+use Rattle.pp_turns_law.proofs.Follows.{has_source, is_next}
 use Rattle.pp_turns_law.proofs.Offering.{offers}
 use Rattle.pp_turns_law.specs.Marks.{AreLoud}
 use Rattle.pp_turns_law.specs.Turns.{IsFollowing}

@@ -2,10 +2,10 @@
 use Rattle.std.proofs.Common.{◌≡◌, refl, sym, subst, ap, ap₂, ◌∙◌, ℕ, suc, Bool, true, false, ◌==◌, cond, find, List, [], ◌∷◌, Option, Some, None}
 use Rattle.std.specs.Prelude.{option_map, slice_set}
 use Rattle.pp_cache_law.proofs.Numbers.{is_same, some_is}
-use Rattle.pp_closings_law.proofs.Peers.{HasPeer, linked}
-use Rattle.pp_closings_law.specs.Log.{AreLinked}
-use Rattle.pp_closings_law.specs.Sides.{IsOrderly, MayClose}
-use Rattle.pp_decides_law.proofs.Sitting.{on_seat_is}
+use Rattle.pp_turns_law.proofs.Peers.{HasPeer, linked}
+use Rattle.pp_turns_law.specs.Log.{AreLinked}
+use Rattle.pp_turns_law.specs.Sides.{IsOrderly, MayClose}
+use Rattle.pp_turns_law.proofs.Sitting.{on_seat_is}
 use Rattle.pp_desk.proofs.ClosingLemmas.{changed_numbers}
 use Rattle.pp_desk.specs.Closings.{Sides, peer_numbers}
 use Rattle.pp_desk.specs.Marks.{marked_on, marked_peer, marked_seat, touched}
@@ -23,12 +23,12 @@ use Rattle.pp_seats.specs.declared.seat.Seat.{Seat}
 use Rattle.pp_seats_law.specs.Clients.{AreShown, IsAt, IsNowhere}
 use Rattle.pp_state.specs.Ends.{AreInOrder, Parts, numbers_of, on_seat_where, place_of}
 use Rattle.pp_states_law.proofs.Begun.{origin_touches, touches}
-use Rattle.pp_steps_law.proofs.Kept.{GoesThrough}
-use Rattle.pp_steps_law.proofs.Places.{HasSeat, at_place, has_seat, no_place, numbers_set}
-use Rattle.pp_steps_law.proofs.Told.{told_next}
-use Rattle.pp_steps_law.specs.Charges.{GoesOn}
-use Rattle.pp_steps_law.specs.Losses.{IsComing}
-use Rattle.pp_steps_law.specs.Steps.{ShowsSteps, whole}
+use Rattle.pp_states_law.proofs.Kept.{GoesThrough}
+use Rattle.pp_states_law.proofs.Places.{HasSeat, at_place, has_seat, no_place, numbers_set}
+use Rattle.pp_states_law.proofs.Told.{told_next}
+use Rattle.pp_states_law.specs.Charges.{GoesOn}
+use Rattle.pp_states_law.specs.Losses.{IsComing}
+use Rattle.pp_states_law.specs.Steps.{ShowsSteps, whole}
 use Rattle.pp_world.specs.declared.event.Side.TheVariants.{Client as OfClient, Origin as OfOrigin}
 use Rattle.pp_events_law.proofs.Standing.{GoesOnLine, go_through, may_by}
 use Rattle.pp_events_law.specs.Stands.{AreClients}

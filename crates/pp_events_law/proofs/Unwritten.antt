@@ -2,8 +2,8 @@
 use Rattle.std.proofs.Common.{◌≡◌, ◌≤◌, ◌<◌, refl, sym, subst, ap, ◌∙◌, ℕ, Bool, true, false, ◌&&◌, find, is_some, nat_lt, List, [], Option, Some, None, length}
 use Rattle.std.specs.Prelude.{count_by, slice_get, vec_capacity}
 use Rattle.pp_cache.specs.Bounds.{IsBounded}
-use Rattle.pp_decides_law.proofs.Sitting.{is_at, shown_at}
-use Rattle.pp_decides_law.specs.Decides.{IsAtPlace}
+use Rattle.pp_turns_law.proofs.Sitting.{is_at, shown_at}
+use Rattle.pp_turns_law.specs.Decides.{IsAtPlace}
 use Rattle.pp_desk.specs.Calls.{Took, write_log}
 use Rattle.pp_desk.specs.Replies.{EndsReplies}
 use Rattle.pp_endings_law.proofs.Walk.{IsGood}

@@ -29,8 +29,8 @@ use Rattle.pp_seats_law.specs.Words.{ShowsUsed}
 use Rattle.pp_state.specs.Ends.{Parts}
 use Rattle.pp_states_law.proofs.Asked.{all_as, frames, itself}
 use Rattle.pp_states_law.specs.Asks.{IsAskedAs}
-use Rattle.pp_steps_law.proofs.Told.{are_told_on, told_next}
-use Rattle.pp_steps_law.specs.Steps.{ShowsSteps}
+use Rattle.pp_states_law.proofs.Told.{are_told_on, told_next}
+use Rattle.pp_states_law.specs.Steps.{ShowsSteps}
 use Rattle.pp_talk.specs.Talking.{used_chunks}
 
 -- ---- of the law: chunks alone change

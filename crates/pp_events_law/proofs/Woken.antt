@@ -2,8 +2,8 @@
 use Rattle.std.proofs.Common.{◌≡◌, refl, sym, subst, ap, ap₂, ◌∙◌, ℕ, find, List, Option, Some, None}
 use Rattle.pp_cache.specs.Bounds.{IsBounded}
 use Rattle.pp_cache.specs.Memory.{Memory}
-use Rattle.pp_closings_law.specs.Log.{AreLinked}
-use Rattle.pp_decides_law.proofs.Regained.{regains}
+use Rattle.pp_turns_law.specs.Log.{AreLinked}
+use Rattle.pp_turns_law.proofs.Regained.{regains}
 use Rattle.pp_desk.specs.Closings.{Sides, peer_numbers, sides}
 use Rattle.pp_desk.specs.Marks.{marked_seat, touched}
 use Rattle.pp_desk.specs.declared.desk.Desk.{Desk}
@@ -20,7 +20,7 @@ use Rattle.pp_proxy.specs.Handling.{Wakes}
 use Rattle.pp_proxy.specs.Moving.{Moving, with_desk}
 use Rattle.pp_seats.specs.declared.seat.Seat.{Seat}
 use Rattle.pp_state.specs.Ends.{Parts, all_regained, numbers_of, on_seat_where, parts, place_of}
-use Rattle.pp_steps_law.specs.Steps.{ShowsSteps}
+use Rattle.pp_states_law.specs.Steps.{ShowsSteps}
 use Rattle.pp_turns_law.specs.Turns.{ShowsTurn}
 use Rattle.pp_world.specs.declared.happening.Happening.TheVariants.{CanRead, CanWrite}
 use Rattle.pp_events_law.proofs.Alike.{AreAlike, awake_alike, on_some, ready_alike, then}

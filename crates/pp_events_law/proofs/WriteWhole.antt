@@ -3,8 +3,8 @@ use Rattle.std.proofs.Common.{◌≡◌, refl, subst, ap, ◌∙◌, ℕ, Bool, 
 use Rattle.std.specs.Prelude.{option_map}
 use Rattle.pp_cache.specs.Bounds.{IsBounded}
 use Rattle.pp_cache_law.proofs.Finds.{find_mapped, find_passes}
-use Rattle.pp_closings_law.proofs.Peers.{HasPeer, linked}
-use Rattle.pp_decides_law.proofs.Twice.{regains_once}
+use Rattle.pp_turns_law.proofs.Peers.{HasPeer, linked}
+use Rattle.pp_turns_law.proofs.Twice.{regains_once}
 use Rattle.pp_desk.specs.declared.desk.Desk.{Desk}
 use Rattle.pp_endings_law.specs.Gone.{IsAnswering}
 use Rattle.pp_law.specs.After.{event, owing}

@@ -3,7 +3,7 @@
 --
 -- Where the premises come from: the log obeys the law up to where the write is owed. What is asked is there, as the wait wanted the
 -- connection (`has_to_ask`); nobody is closing at a wait, and no reply is over (`AreSettled`). That attempts count anew no more is
--- `RegainsOnce` of pp_decides_law, of what `event` leaves. No line is longer than 8 (IsSoundTurn, `bounded`), nor a text than 16,384 (`Entry` of
+-- `RegainsOnce` of pp_turns_law, of what `event` leaves. No line is longer than 8 (IsSoundTurn, `bounded`), nor a text than 16,384 (`Entry` of
 -- pp_flow). Whose response was begun is as in `Breaks`.
 use Rattle.std.specs.Prelude.{◌≡◌, ◌≤◌, ℕ, false, length, List, Some}
 use Rattle.pp_cache.specs.Bounds.{IsBounded}

@@ -25,7 +25,7 @@ use Rattle.pp_events_law.specs.ToLoad.{StandsInEvent}
 
 -- the event was owed nothing before the write
 pub record IsFirstOwed (s : State) : Type 0 where
-  -- RegainsOnce of pp_decides_law, of what `event` leaves
+  -- RegainsOnce of pp_turns_law, of what `event` leaves
   pub anew : regained s ≡ s
   -- `rest_with` of pp_law leaves it so, and no event changes it before its read or write
   pub evicting : s.is_evicting ≡ false

@@ -2,8 +2,8 @@
 -- 2616, section 8.1; the order is ours).
 use Rattle.std.specs.Prelude.{◌≡◌, ◌≤◌, ℕ, List, [], ◌∷◌, find, Some, None, ⊤}
 use Rattle.std.specs.List.{All}
-use Rattle.pp_closings_law.specs.Log.{AreLinked}
-use Rattle.pp_decides_law.specs.Regains.{AllFollow}
+use Rattle.pp_turns_law.specs.Log.{AreLinked}
+use Rattle.pp_turns_law.specs.Regains.{AllFollow}
 use Rattle.pp_desk.specs.Closings.{peer_numbers}
 use Rattle.pp_endings_law.specs.Replies.{ShowsDesk}
 use Rattle.pp_law.specs.Replies.{regained}

@@ -41,7 +41,7 @@ pub record StandsOnDisk (shelf : KeptMap) (s : State) : Type 0 where
   pub alone : HasOneRow s
   -- where another version comes the key is cleared, and its entry stale (`pp_laws_versions`)
   pub versions : HaveOneVersion s
-  -- a run is sealed of whole chunks, chunks leave memory whole, and below the extent none joins (`join_run`); no source yet
+  -- a run is sealed of whole chunks, chunks leave memory whole, and below the extent none joins (`join_run`): `pp_laws_versions`
   pub whole : AreWhole s
 
 -- ---- where an event is handled

@@ -4,8 +4,8 @@ use Rattle.std.specs.List.{cons_option, filter_map}
 use Rattle.std.specs.Prelude.{IfSome, slice_get, slice_set}
 use Rattle.pp_cache.specs.Memory.{Memory}
 use Rattle.pp_cache_law.proofs.Numbers.{is_same, some_is}
-use Rattle.pp_decides_law.proofs.Changed.{get_set}
-use Rattle.pp_decides_law.proofs.Regained.{get_other}
+use Rattle.pp_turns_law.proofs.Changed.{get_set}
+use Rattle.pp_turns_law.proofs.Regained.{get_other}
 use Rattle.pp_law.specs.Lists.{has_number}
 use Rattle.pp_seats.specs.Follows.{next_of}
 use Rattle.pp_seats.specs.declared.seat.Course.TheVariants.{Trying}

@@ -3,7 +3,7 @@ use Rattle.std.proofs.Common.{◌≡◌, ◌⊎◌, inl, inr, refl, sym, subst, 
 use Rattle.std.specs.List.{filter_map}
 use Rattle.std.specs.Prelude.{IfSome, slice_get, take}
 use Rattle.pp_cache.specs.Memory.{Memory}
-use Rattle.pp_decides_law.proofs.Regained.{regains}
+use Rattle.pp_turns_law.proofs.Regained.{regains}
 use Rattle.pp_desk.specs.declared.desk.Desk.{Desk}
 use Rattle.pp_flow.specs.Changes.{Exchanges, entry_of}
 use Rattle.pp_flow_law.specs.Tables.{Leaving, none_leaves}
@@ -27,7 +27,7 @@ use Rattle.pp_state.specs.Pins.{exchanges_of, pin_of_entry, pin_of_seat, pins}
 use Rattle.pp_state.specs.declared.state.State.{State as Turn}
 use Rattle.pp_states_law.proofs.Framed.{states}
 use Rattle.pp_steps.specs.Evicting.{evicted_notes, forgotten_notes, leaving_chunks, leaving_notes, left_memory, next_victim, without_all}
-use Rattle.pp_steps_law.specs.Steps.{ShowsSteps, whole}
+use Rattle.pp_states_law.specs.Steps.{ShowsSteps, whole}
 use Rattle.pp_turns_law.proofs.Wanted.{same_length}
 use Rattle.pp_turns_law.specs.Firsts.{IsAsleep}
 use Rattle.pp_turns_law.specs.Rows.{AreReady, IsReady}

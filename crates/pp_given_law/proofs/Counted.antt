@@ -2,7 +2,7 @@
 use Rattle.std.proofs.Common.{◌≡◌, refl, sym, subst, ap, ◌∙◌, ℕ, Bool, true, false, cond, find, fold, map, List, [], ◌∷◌, ◌++◌, Option, Some, None}
 use Rattle.std.specs.List.{list_any}
 use Rattle.pp_cache_law.proofs.Numbers.{some_is}
-use Rattle.pp_closings_law.specs.Unseen.{IsCountedOn}
+use Rattle.pp_turns_law.specs.Unread.{IsCountedOn}
 use Rattle.pp_desk.specs.declared.desk.Desk.{Desk}
 use Rattle.pp_flow.specs.Changes.{Exchanges, changed, entry_of, first_of, numbers, with_errand}
 use Rattle.pp_flow.specs.Entries.{asking, is_number}

@@ -1,10 +1,9 @@
 -- Of what is dropped as much is counted as came, where the connection of an origin breaks: it has no line any more.
-use Rattle.std.proofs.Common.{◌≡◌, sym, subst, ap, ℕ, Bool, true, false, find, List, Option, Some, None}
+use Rattle.std.proofs.Common.{◌≡◌, sym, subst, ap, ℕ, Bool, true, false, find, List, Some}
 use Rattle.std.specs.Prelude.{option_and_then}
-use Rattle.pp_desk.specs.Closings.{Sides, sides, with_parts}
+use Rattle.pp_desk.specs.Closings.{Sides, sides}
 use Rattle.pp_desk.specs.declared.desk.Desk.{Desk}
 use Rattle.pp_flow.specs.Changes.{Exchanges, entry_of}
-use Rattle.pp_flow.specs.declared.entry.Entry.{Entry}
 use Rattle.pp_flow_law.specs.Tables.{ShowsFlow, none_leaves}
 use Rattle.pp_framing.specs.declared.body.Ending.{Ending}
 use Rattle.pp_framing.specs.declared.body.Ending.TheVariants.{Whole, Short}
@@ -14,14 +13,16 @@ use Rattle.pp_law.specs.Replies.{regained}
 use Rattle.pp_law.specs.Responses.{ended}
 use Rattle.pp_law.specs.State.{State, Conn}
 use Rattle.pp_law.specs.Unseen.{came_of}
-use Rattle.pp_origins.specs.Responses.{brought_by, closed_unless, ended_by, ending_by, finished, goes_on_by, origin_gone, whole_for, whole_where}
+use Rattle.pp_origins.specs.Responses.{ended_by, ending_by, origin_gone, whole_where}
 use Rattle.pp_peers.specs.Peers.{is_number as is_peer}
 use Rattle.pp_state.specs.Ends.{parts}
 use Rattle.pp_state.specs.Lines.{first_on}
 use Rattle.pp_stays_law.proofs.Came.{AllConns}
 use Rattle.pp_stays_law.proofs.Counted.{IsAsBefore, all_as_before}
-use Rattle.pp_stays_law.proofs.Walk.{AllOf, all_without}
+use Rattle.pp_stays_law.proofs.Walk.{AllOf}
 use Rattle.pp_proxy.specs.Handling.{Breaks}
+use Rattle.pp_given_law.proofs.CountedWalk.{whole_on as all_whole}
+use Rattle.pp_stays_law.proofs.Fits.{bodies_suit}
 use Rattle.pp_given_law.proofs.CountedReads.{ends_all, pays, replies_on, then_conns}
 use Rattle.pp_given_law.proofs.CountedTicks.{G, HasOld, P, closes, each, line_closed, old_counted, starts_old}
 use Rattle.pp_given_law.specs.Counts.{CountedAsBroken}
@@ -47,19 +48,8 @@ module _ (n c : ℕ) where
 -- ---- the program
 
 module _ (f : Exchanges) where
-  unless : (b : Bool) (k : ℕ) (x : Sides) → G f x.parts → G f (closed_unless b k x).parts
-  unless true k x h = h
-  unless false k x h = line_closed f k true (find (is_peer k) x.peers) x.parts h
-
-  whole_on : (k : ℕ) (o : Option Entry) (x : Sides) → G f x.parts → G f (whole_for k o x).parts
-  whole_on k None x h = h
-  whole_on k (Some e) x h =
-      let y : Sides = with_parts (finished e.exchange) x in
-      let z : Sides = record y { peers = brought_by k (find (is_peer k) y.peers) y.peers } in
-      unless (goes_on_by (find (is_peer k) y.peers) e.errand.body_left e.errand.binds_connection) k z (all_without (IsAsBefore f) e.exchange.number x.parts.flow.placed h)
-
   where_whole : (e : Ending) (k : ℕ) (x : Sides) → G f x.parts → G f (whole_where e k x).parts
-  where_whole Whole k x h = whole_on k (option_and_then (λ number. entry_of number x.parts.flow) (first_on k x.parts)) x h
+  where_whole Whole k x h = all_whole (IsAsBefore f) (bodies_suit f) k (option_and_then (λ number. entry_of number x.parts.flow) (first_on k x.parts)) x h
   where_whole Short k x h = h
 
   pub gone_on : (is_clean : Bool) (k : ℕ) (x : Sides) → G f x.parts → G f (origin_gone is_clean k x).parts

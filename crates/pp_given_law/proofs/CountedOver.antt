@@ -1,8 +1,8 @@
 -- Of what is dropped as much is counted as came, behind what leaves memory, what is kept, and events that add nothing to the log.
 use Rattle.std.proofs.Common.{◌≡◌, inl, inr, refl, sym, subst, ap, ◌∙◌, ℕ, Bool, true, false, cond, find, map, List, [], ◌∷◌, Option, Some, None, ◌==◌}
 use Rattle.pp_cache_law.proofs.Numbers.{some_is}
-use Rattle.pp_closings_law.specs.Unseen.{IsCountedOn}
-use Rattle.pp_decides_law.proofs.GivenUp.{waiting_in_order}
+use Rattle.pp_turns_law.specs.Unread.{IsCountedOn}
+use Rattle.pp_turns_law.proofs.GivenUp.{waiting_in_order}
 use Rattle.pp_desk.specs.Closings.{Sides}
 use Rattle.pp_desk.specs.Marks.{marked_seat}
 use Rattle.pp_desk.specs.declared.desk.Desk.{Desk}

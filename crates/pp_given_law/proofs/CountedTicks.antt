@@ -1,15 +1,12 @@
 -- Of what is dropped as much is counted as came, behind a tick: connections that are idle have no line any more, and on the others all is as it was.
-use Rattle.std.proofs.Common.{◌≡◌, ◌≤◌, ◌⊎◌, inl, inr, refl, sym, subst, ap, ◌∙◌, ℕ, zero, suc, Bool, true, false, ◌==◌, ◌&&◌, not, cond, find, map, max, List, [], ◌∷◌, Option, Some, None, le_refl}
+use Rattle.std.proofs.Common.{◌≡◌, ◌≤◌, ◌⊎◌, inl, inr, refl, sym, subst, ap, ◌∙◌, ℕ, Bool, true, false, ◌==◌, ◌&&◌, not, cond, find, map, max, List, [], ◌∷◌, Option, Some, None, le_refl}
 use Rattle.std.specs.List.{fold}
 use Rattle.std.specs.Prelude.{count_by, option_map}
 use Rattle.pp_cache_law.proofs.Numbers.{is_same, some_is}
-use Rattle.pp_closings_law.specs.Unseen.{IsCountedOn}
+use Rattle.pp_turns_law.specs.Unread.{IsCountedOn}
 use Rattle.pp_desk.specs.Closings.{Sides, closed_line, peer_numbers, sides}
 use Rattle.pp_desk.specs.Origins.{given_up, is_idle_in, patience_ended, unanswered, without_idle_on}
-use Rattle.pp_flow.specs.Changes.{Exchanges, entered, entry_of, unplaced as without_place, without}
-use Rattle.pp_flow.specs.Entries.{is_number, with_place}
-use Rattle.pp_flow.specs.Errands.{attempts_in}
-use Rattle.pp_flow.specs.declared.entry.Entry.{Entry}
+use Rattle.pp_flow.specs.Changes.{Exchanges}
 use Rattle.pp_flow.specs.declared.entry.Exchange.{Exchange as OfEntry}
 use Rattle.pp_flow_law.proofs.Framed.{frames}
 use Rattle.pp_flow_law.specs.Frames.{emptied}
@@ -25,20 +22,16 @@ use Rattle.pp_law.specs.Unseen.{came_of}
 use Rattle.pp_peers.specs.Peers.{is_number as is_peer}
 use Rattle.pp_peers.specs.declared.peers.Peer.{Peer}
 use Rattle.pp_proxy.specs.Ticks.{second_begun, ticked}
-use Rattle.pp_seats.specs.Courses.{lost_one as lost_in, without_row as without_row_in}
-use Rattle.pp_seats.specs.declared.seat.Course.{Course as CourseOf}
-use Rattle.pp_seats.specs.declared.seat.Seat.{Seat}
 use Rattle.pp_state.specs.Asking.{owed_answer}
-use Rattle.pp_state.specs.Ends.{Parts, asked_elsewhere, charged_at, charged_where, cleared_of, cleared_row, cut_short, dropped_row, ended, exchange_at, given_up_row, is_unfilled_at, left_place, left_place_at, lost_attempt, lost_place, may_go_elsewhere, on_seat, on_seat_where, seat_for, with_course}
-use Rattle.pp_state.specs.Keys.{key_of}
-use Rattle.pp_state.specs.Lines.{first_on, lost_line}
+use Rattle.pp_state.specs.Ends.{Parts, seat_for}
 use Rattle.pp_state.specs.declared.state.State.{State as Turn}
 use Rattle.pp_stays_law.proofs.Came.{AllConns, HasCome, came_at}
 use Rattle.pp_stays_law.proofs.Counted.{IsAsBefore, all_as_before, counted_behind}
 use Rattle.pp_stays_law.proofs.Fits.{AnyEntry, AnyMemory, AnySeat, any_entries, bodies_suit}
-use Rattle.pp_stays_law.proofs.Walk.{AllOf, Holds, all_without, anew_fine, ended_fine, left_fine}
+use Rattle.pp_stays_law.proofs.Walk.{AllOf, Holds}
 use Rattle.pp_target.specs.Key.{text_of}
 use Rattle.pp_given_law.proofs.CountedOver.{handled_conns}
+use Rattle.pp_given_law.proofs.CountedWalk.{charged_on as charged_all, line_closed as line_shut}
 use Rattle.pp_given_law.specs.Counts.{CountedAsTicked}
 
 -- ---- the law: each connection has what it had, or no line
@@ -169,99 +162,15 @@ module _ (f : Exchanges) where
   pub whole : (p : Parts) → G p → Holds AnySeat AnyEntry (IsAsBefore f) AnyMemory p
   whole p h = record { seats = λ i seat at. tt; waiting = any_entries p.flow.waiting; placed = h; memory = tt }
 
-  ends : (n : ℕ) (p : Parts) → G p → G (ended n p)
-  ends n p h = (ended_fine AnySeat AnyEntry (IsAsBefore f) AnyMemory (bodies_suit f) n p (whole p h)).placed
-
-  cleared_same : (o : Option (List ℕ)) (p : Parts) → (cleared_of o p).flow ≡ p.flow
-  cleared_same None p = refl
-  cleared_same (Some key) p = refl
-
-  drops : (i : ℕ) (e : OfEntry) (p : Parts) → G p → G (dropped_row i e p)
-  drops i e p h =
-      let q : Parts = on_seat i without_row_in (cleared_row e.number p) in
-      (left_fine AnySeat AnyEntry (IsAsBefore f) AnyMemory (bodies_suit f) e.number q (whole q (subst (λ (g : Exchanges). AllOf (IsAsBefore f) g.placed) (sym (cleared_same (key_of e.number p.flow) p)) h))).placed
-
-  gives_up : (i : ℕ) (e : OfEntry) (p : Parts) → G p → G (given_up_row i e p)
-  unfolding given_up_row
-  gives_up i e p h = by (is_unfilled_at i e p)
-    where
-      by : (b : Bool) → G (cond b (dropped_row i e p) p)
-      by true = drops i e p h
-      by false = h
-
-  charged_on : (o : Option ℕ) (cost : CourseOf → CourseOf) (e : OfEntry) (p : Parts) → G p → G (charged_at o cost e p)
-  unfolding charged_at
-  charged_on None cost e p h = h
-  charged_on (Some i) cost e p h = gives_up i e (on_seat i (with_course cost) p) h
-
-  lost_on : (e : OfEntry) (p : Parts) → G p → G (lost_attempt e p)
-  lost_on e p h = by (entry_of e.number p.flow)
-    where
-      by : (o : Option Entry) → G (elim o as (λ t. Parts) [ None ↦ p | Some x ↦ charged_at (seat_for e p.seats) (lost_in (attempts_in x.errand.is_asked_once)) e p ])
-      by None = h
-      by (Some x) = charged_on (seat_for e p.seats) (lost_in (attempts_in x.errand.is_asked_once)) e p h
-
-  counts_on : (counts : Bool) (e : OfEntry) (p : Parts) → G p → G (charged_where counts e p)
-  counts_on true e p h = lost_on e p h
-  counts_on false e p h = h
-
-  where_same : (o : Option ℕ) (g : Seat → Seat) (p : Parts) → (on_seat_where o g p).flow ≡ p.flow
-  where_same None g p = refl
-  where_same (Some i) g p = refl
-
-  cut : (e : OfEntry) (p : Parts) → G p → G (cut_short e p)
-  cut e p h = subst (λ (g : Exchanges). AllOf (IsAsBefore f) g.placed) (sym (where_same (seat_for e p.seats) _ p)) h
-
-  unplaces : (n : ℕ) (p : Parts) → G p → G (record p { flow = without_place n p.flow })
-  unplaces n p h = by (find (is_number n) p.flow.placed)
-    where
-      by : (o : Option Entry) → AllOf (IsAsBefore f) (elim o as (λ t. Exchanges) [ None ↦ p.flow | Some e ↦ record p.flow { waiting = entered (with_place None e) p.flow.waiting; placed = without n p.flow.placed } ]).placed
-      by None = h
-      by (Some e) = all_without (IsAsBefore f) n p.flow.placed h
-
-  elsewhere : (n : ℕ) (p : Parts) → G p → G (asked_elsewhere n p)
-  elsewhere n p h =
-      let q : Parts = record p { flow = without_place n p.flow } in
-      (anew_fine AnySeat AnyEntry (IsAsBefore f) AnyMemory (bodies_suit f) n q (whole q (unplaces n p h))).placed
-
-  place_left : (e : OfEntry) (p : Parts) → G p → G (left_place e p)
-  unfolding left_place
-  place_left e p h = by e.headed (may_go_elsewhere e.number p)
-    where
-      by : (a b : Bool) → G (cond a (ended e.number (cut_short e p)) (cond b (asked_elsewhere e.number p) (ended e.number p)))
-      by true b = ends e.number (cut_short e p) (cut e p h)
-      by false true = elsewhere e.number p h
-      by false false = ends e.number p h
-
-  place_lost : (n : ℕ) (counts : Bool) (p : Parts) → G p → G (lost_place n counts p)
-  place_lost n counts p h = by (exchange_at n p.flow)
-    where
-      by : (o : Option OfEntry) → G (left_place_at o counts p)
-      by None = h
-      by (Some e) = place_left e (charged_where counts e p) (counts_on counts e p h)
-
-  line_lost : (more k : ℕ) (counts : Bool) (p : Parts) → G p → G (lost_line more k counts p)
-  line_lost zero k counts p h = h
-  line_lost (suc more) k counts p h = by (first_on k p) (λ q rest. line_lost more k counts q rest)
-    where
-      by : (o : Option ℕ) → ((q : Parts) → G q → G (lost_line more k counts q)) → G (elim o as (λ t. Parts) [ None ↦ p | Some n ↦ lost_line more k counts (lost_place n counts p) ])
-      by None rest = h
-      by (Some n) rest = rest (lost_place n counts p) (place_lost n counts p h)
-
   pub line_closed : (k : ℕ) (counts : Bool) (o : Option Peer) (p : Parts) → G p → G (closed_line k counts o p)
-  line_closed k counts None p h = h
-  line_closed k counts (Some peer) p h = by peer.is_closing
-    where
-      by : (b : Bool) → G (cond b p (lost_line 1024 k (counts && not peer.has_brought) p))
-      by true = h
-      by false = line_lost 1024 k (counts && not peer.has_brought) p h
+  line_closed k counts o p h = line_shut (IsAsBefore f) (bodies_suit f) k counts o p h
 
   patience_on : (k : ℕ) (p : Parts) → G p → G (patience_ended k p)
   patience_on k p h = by (owed_answer k p.flow)
     where
       by : (o : Option OfEntry) → G (unanswered o p)
       by None = h
-      by (Some e) = charged_on (seat_for e p.seats) _ e p h
+      by (Some e) = charged_all (IsAsBefore f) (bodies_suit f) (seat_for e p.seats) _ e p h
 
   idle_on : (now k : ℕ) (x : Sides) → G x.parts → G (without_idle_on now x k).parts
   idle_on now k x h = by (is_idle_in now x.parts.flow (find (is_peer k) x.peers))

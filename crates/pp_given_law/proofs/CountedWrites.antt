@@ -4,7 +4,7 @@ use Rattle.std.specs.List.{list_any}
 use Rattle.std.specs.Option.{option_and_then}
 use Rattle.std.specs.Prelude.{nat_lt, slice_get}
 use Rattle.pp_cache_law.proofs.Numbers.{some_is}
-use Rattle.pp_closings_law.specs.Unseen.{IsCountedOn}
+use Rattle.pp_turns_law.specs.Unread.{IsCountedOn}
 use Rattle.pp_desk.specs.Calls.{Took}
 use Rattle.pp_desk.specs.Closings.{Sides, sides}
 use Rattle.pp_desk.specs.Marks.{marked_seat}

@@ -12,6 +12,7 @@ pub mod Stands
 pub mod Counted
 pub mod ReadHeads
 pub mod HeadRoom
+pub mod CountedWalk
 pub mod CountedOver
 pub mod CountedTicks
 pub mod CountedReads
@@ -22,3 +23,10 @@ pub mod NamesFirst
 pub mod Begun
 pub mod CountedWrites
 pub mod CountedEnds
+pub mod CountedAnswers
+pub mod CountedLaws
+pub mod CountedData
+pub mod CountedPieces
+pub mod CountedHeads
+pub mod LinesAnswered
+pub mod CountedMoments

@@ -8,7 +8,7 @@ use Rattle.pp_cache_law.proofs.Alike.{room_of}
 use Rattle.pp_cache_law.proofs.Numbers.{some_is}
 use Rattle.pp_cache_law.proofs.PairLemmas.{count_first}
 use Rattle.pp_cache_law.specs.Pairs.{AreAll}
-use Rattle.pp_decides_law.proofs.Keyed.{keys_same}
+use Rattle.pp_turns_law.proofs.Keyed.{keys_same}
 use Rattle.pp_desk.specs.declared.desk.Desk.{Desk}
 use Rattle.pp_flow.specs.declared.entry.Entry.{Entry}
 use Rattle.pp_flow_law.proofs.Told.{counts}

@@ -7,3 +7,4 @@ pub mod MayNote
 pub mod Begins
 pub mod Writes
 pub mod Ends
+pub mod Pieces

@@ -4,7 +4,8 @@
 //! asks leave and as what came is kept. `specs/Laws.antt` says of what: memory was refused for no row that a client waits for, and what
 //! each client is to be said first has room; and that of what is dropped as much is counted as came, over a wait. `specs/Counts.antt` has
 //! that behind what leaves memory, what is kept, events that add nothing to the log, and the read of a client; `specs/Writes.antt` behind each
-//! write, and `specs/Ends.antt` behind the read of an origin that brings nothing of a response. `specs/Heads.antt` has it that each head which a
+//! write, and `specs/Ends.antt` behind the read of an origin that brings nothing of a response. `specs/Pieces.antt` has it amid the read of an
+//! origin, behind each head and each piece of a body. `specs/Heads.antt` has it that each head which a
 //! connection reads has room, written anew under a name of at most 64 bytes: by the limits of heads (`proofs/ReadHeads.antt`) it has at most
 //! 16,755 bytes (`proofs/HeadRoom.antt`). `specs/Begins.antt` has all three as replies begin at the end of a turn.
 //!
@@ -17,7 +18,8 @@
 //! Each function of the program that changes clients is walked once, for whatever holds of a client where it is not refused and has room
 //! (`proofs/Carried.antt`).
 //!
-//! Not said: that of what is dropped as much is counted as came, behind the read of an origin that brings bytes.
+//! Not said: that of what is dropped as much is counted as came, behind all of the read of an origin that brings bytes: `specs/Pieces.antt` has
+//! it from one moment of the read to the next.
 //!
 //! To the layer above: each is the clause of a function that does nothing.
 //!
@@ -30,6 +32,7 @@ mod ends; // what is dropped, where an origin ends
 mod given; // nobody is refused
 mod limits; // heads that are read
 mod notes; // what is noted
+mod pieces; // what is dropped, amid a read
 mod texts; // what is said first
 mod writes; // what is dropped, behind a write
 
@@ -50,6 +53,10 @@ pub use given::{
 };
 pub use limits::heads_have_room;
 pub use notes::{names_are_few_at_first, names_stay_few, rows_may_be_noted};
+pub use pieces::{
+    lines_are_answered_in_reads, what_is_dropped_stays_counted_amid_reads,
+    what_is_dropped_stays_counted_behind_heads, what_is_dropped_stays_counted_behind_pieces,
+};
 pub use texts::{
     texts_have_room_as_replies_begin, texts_have_room_behind_events, texts_have_room_in_events,
     texts_have_room_over_waits,

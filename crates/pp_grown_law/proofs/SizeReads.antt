@@ -172,7 +172,7 @@ module _ (k : ℕ) where
       by Bad bad = then_size (bad_response k) here.came (record x { peers = it.fed }) y (bad_goes k) bad
       by Idle idle = data_size here.came x.state y.state idle.0
 
-  got_size : (more : ℕ) (shelf : KeptMap) (o : Option Remains) (x y : Both) → GotFrom more shelf k o x y → Sizes x.state y.state
+  pub got_size : (more : ℕ) (shelf : KeptMap) (o : Option Remains) (x y : Both) → GotFrom more shelf k o x y → Sizes x.state y.state
   unfolding GotFrom
   got_size zero shelf o x y is = sizes_as x.state (gone_astray_where (is_some o) x.state) y.state (ap (λ (z : Both). z.state) is) (astray (is_some o))
     where

@@ -18,7 +18,7 @@ all_changed n f (x ∷ xs) each all = by (is_number n x) (all_changed n f xs eac
     by false rest = (all.0, rest)
 
 nobodys_can : (x : Entry) → IsAskable x → IsAskable (nobodys x)
-nobodys_can x ask = record { place = ask.place; short = ask.short; head = ask.head }
+nobodys_can x ask = record { place = ask.place; short = ask.short }
 
 pub can_left : (n : ℕ) (f : Exchanges) → Can f → Can (record f { waiting = changed n nobodys f.waiting; placed = changed n nobodys f.placed })
 can_left n f can = (all_changed n nobodys f.waiting nobodys_can can.0, all_changed n nobodys f.placed nobodys_can can.1)
@@ -43,20 +43,16 @@ can_unplaced n f can = by (find (is_number n) f.placed) refl
     by None is = can
     by (Some e) is =
         let one : IsAskable e = askable_found (is_number n) f.placed e is can.1 in
-        (come_in (with_place None e) f.waiting (record { place = one.place; short = one.short; head = one.head }) can.0, askable_without n f.placed can.1)
+        (come_in (with_place None e) f.waiting (record { place = one.place; short = one.short }) can.0, askable_without n f.placed can.1)
 
 -- ---- more of it is asked
 
--- of the same place, and as it was asked for a head
-pub record AsksAlike (a b : Errand) : Type 0 where
-  pub place : b.place ≡ a.place
-  pub head : b.asks_head ≡ a.asks_head
+-- of the same place
+asks_so : (x : Entry) (errand : Errand) → errand.place ≡ x.errand.place → IsAskable x → IsAskable (asking errand x)
+asks_so x errand same ask = record { place = subst (λ p. IsPlaceIn x.key.items p) (sym same) ask.place; short = ask.short }
 
-asks_so : (x : Entry) (errand : Errand) → AsksAlike x.errand errand → IsAskable x → IsAskable (asking errand x)
-asks_so x errand alike ask = record { place = subst (λ p. IsPlaceIn x.key.items p) (sym alike.place) ask.place; short = ask.short; head = λ own. alike.head ∙ ask.head own }
-
-pub can_errand : (n : ℕ) (errand : Errand) (f : Exchanges) (x : Entry) → entry_of n f ≡ Some x → AsksAlike x.errand errand → Can f → Can (with_errand n errand f)
-can_errand n errand f x here alike can = by (find (is_number n) f.waiting) (find (is_number n) f.placed) refl refl here
+pub can_errand : (n : ℕ) (errand : Errand) (f : Exchanges) (x : Entry) → entry_of n f ≡ Some x → errand.place ≡ x.errand.place → Can f → Can (with_errand n errand f)
+can_errand n errand f x here same can = by (find (is_number n) f.waiting) (find (is_number n) f.placed) refl refl here
   where
     chosen : (b : Bool) → Exchanges
     chosen b = cond b (record f { waiting = changed n (asking errand) f.waiting }) (record f { placed = changed n (asking errand) f.placed })
@@ -64,7 +60,7 @@ can_errand n errand f x here alike can = by (find (is_number n) f.waiting) (find
     by : (a b : Option Entry) → find (is_number n) f.waiting ≡ a → find (is_number n) f.placed ≡ b → first_of a b ≡ Some x → Can (with_errand n errand f)
     by (Some y) b one other is =
         let found : find (is_number n) f.waiting ≡ Some x = one ∙ is in
-        subst (λ (t : Bool). Can (chosen t)) (sym (found_any n f.waiting x found)) (change_first n (asking errand) f.waiting x found (asks_so x errand alike (askable_found (is_number n) f.waiting x found can.0)) can.0, can.1)
+        subst (λ (t : Bool). Can (chosen t)) (sym (found_any n f.waiting x found)) (change_first n (asking errand) f.waiting x found (asks_so x errand same (askable_found (is_number n) f.waiting x found can.0)) can.0, can.1)
     by None b one other is =
         let found : find (is_number n) f.placed ≡ Some x = other ∙ is in
-        subst (λ (t : Bool). Can (chosen t)) (sym (none_any n f.waiting one)) (can.0, change_first n (asking errand) f.placed x found (asks_so x errand alike (askable_found (is_number n) f.placed x found can.1)) can.1)
+        subst (λ (t : Bool). Can (chosen t)) (sym (none_any n f.waiting one)) (can.0, change_first n (asking errand) f.placed x found (asks_so x errand same (askable_found (is_number n) f.placed x found can.1)) can.1)

@@ -44,7 +44,7 @@ none_any n (y ∷ ys) none = by (is_number n y) none (λ later. none_any n ys la
     by false is rest = rest is
 
 body_askable : (body : Body) (x : Entry) → IsAskable x → IsAskable (asking (record x.errand { body = body }) x)
-body_askable body x ask = record { place = ask.place; short = ask.short; head = ask.head }
+body_askable body x ask = record { place = ask.place; short = ask.short }
 
 noted_can : (n : ℕ) (body : Body) (f : Exchanges) → Can f → Can (body_noted (entry_of n f) n body f)
 noted_can n body f can = by (find (is_number n) f.waiting) (find (is_number n) f.placed) refl refl

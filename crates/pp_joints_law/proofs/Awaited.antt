@@ -1,6 +1,6 @@
 -- Behind its wait a turn stands where an event is awaited.
 use Rattle.std.proofs.Common.{◌≤◌, sym, subst, ◌∙◌, ℕ, List, [], ◌∷◌}
-use Rattle.pp_closings_law.specs.Log.{AreLinked}
+use Rattle.pp_turns_law.specs.Log.{AreLinked}
 use Rattle.pp_desk.specs.declared.desk.Desk.{Desk}
 use Rattle.pp_events_law.specs.Stands.{AreClients, AreOpen as AreOpenAt}
 use Rattle.pp_rests_law.proofs.MayClose.{closings_may}

@@ -65,7 +65,7 @@ clears : (n : ℕ) (p : Parts) → Goes p (cleared_row n p)
 clears n p = clears_of (key_of n p.flow) p
 
 bound_can : (to : Option Span) (x : Entry) → IsAskable x → IsAskable (bound_to to x)
-bound_can to x ask = record { place = ask.place; short = ask.short; head = ask.head }
+bound_can to x ask = record { place = ask.place; short = ask.short }
 
 binds : (n : ℕ) (to : Option Span) (p : Parts) → Goes p (bound_by n to p)
 binds n to p can = (can.0, all_changed n (bound_to to) p.flow.placed (bound_can to) can.1)
@@ -345,7 +345,7 @@ body_can n seats f can = by (entry_of n f) refl
   where
     by : (o : Option Entry) → entry_of n f ≡ o → Can (with_body_for o n seats f)
     by None is = can
-    by (Some e) is = can_errand n _ f e is (record { place = refl; head = refl }) can
+    by (Some e) is = can_errand n _ f e is refl can
 
 takes_head : (n : ℕ) (e : Exchange) (errand : Errand) (head : Response) (rule : BodyRule) (s : State) (q : Parts) → TakesHead n e errand head rule s q → Goes (parts s) q
 takes_head n e errand head rule s q it = goes_as (parts s) (noted_body n it.between) q it.noted (λ can. body_can n it.between.seats it.between.flow (takes e.aim e errand head rule s it.between it.taken can))

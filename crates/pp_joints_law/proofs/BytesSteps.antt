@@ -83,7 +83,7 @@ bads k x = by (first_on k x.parts)
 -- ---- data
 
 moved_can : (m : ℕ) (x : Entry) → IsAskable x → IsAskable (moved_by m x)
-moved_can m x ask = record { place = ask.place; short = ask.short; head = ask.head }
+moved_can m x ask = record { place = ask.place; short = ask.short }
 
 joins : (number : ℕ) (o : Option Span) (bytes : List ℕ) (s : State) → GoesOn s (joined_by number o bytes s)
 joins number None bytes s = on_same s
@@ -98,7 +98,7 @@ dropped_can number n f can = by (entry_of number f) refl
   where
     by : (o : Option Entry) → entry_of number f ≡ o → Can (drops_in o number n f)
     by None is = can
-    by (Some e) is = can_errand number _ f e is (record { place = refl; head = refl }) can
+    by (Some e) is = can_errand number _ f e is refl can
 
 delivers : (o : Option Exchange) (number : ℕ) (bytes : List ℕ) (s : State) → GoesOn s (delivered_for o number bytes s)
 delivers None number bytes s = on_same s
@@ -136,7 +136,7 @@ goes_behind : (o : Option Bool) (k : ℕ) (x y : Both) → GoesOnBehind o k x y 
 goes_behind None k x y it = makes_on (bad_response k) (bads k) x y it
 goes_behind (Some stays) k x y it = on_as x.state x.state y.state (ap (λ (b : Both). b.state) it) (on_same x.state)
 
-head_on_turn : (shelf : KeptMap) (k : ℕ) (x y : Both) → HeadCame shelf k x y → GoesOn x.state y.state
+pub head_on_turn : (shelf : KeptMap) (k : ℕ) (x y : Both) → HeadCame shelf k x y → GoesOn x.state y.state
 head_on_turn shelf k x y it = by (first_on k (parts x.state)) it
   where
     by : (o : Option ℕ) → HeadCameFor o shelf k x y → GoesOn x.state y.state
@@ -155,7 +155,7 @@ step_takes End shelf k came x y it = data_then (response_whole k) (wholes k) k c
 step_takes Bad shelf k came x y it = data_then (bad_response k) (bads k) k came x y it
 step_takes Idle shelf k came x y it = data_on k came x.state y.state it.0
 
-step_on : (o : Option Peer) (shelf : KeptMap) (k : ℕ) (here : Remains) (x y : Both) (behind : Option Remains) → IsStepOn o shelf k here x y behind → GoesOn x.state y.state
+pub step_on : (o : Option Peer) (shelf : KeptMap) (k : ℕ) (here : Remains) (x y : Both) (behind : Option Remains) → IsStepOn o shelf k here x y behind → GoesOn x.state y.state
 step_on None shelf k here x y behind it = on_as x.state x.state y.state (ap (λ (b : Both). b.state) it.0) (on_same x.state)
 step_on (Some peer) shelf k here x y behind it = step_takes it.told.1 shelf k here.came (record x { peers = it.fed }) y it.takes
 

@@ -2,7 +2,7 @@
 use Rattle.std.proofs.Common.{◌≡◌, refl, sym, subst, ap, ◌∙◌, ℕ, suc, Bool, true, false, ◌==◌, cond, length, List, [], ◌∷◌, Option, Some, None, option_map, append-nil}
 use Rattle.std.specs.Prelude.{slice_get}
 use Rattle.pp_cache_law.proofs.Numbers.{is_same, some_is}
-use Rattle.pp_closings_law.proofs.Peers.{HasPeer, linked}
+use Rattle.pp_turns_law.proofs.Peers.{HasPeer, linked}
 use Rattle.pp_desk.specs.Calls.{read_log, write_log}
 use Rattle.pp_desk.specs.Closings.{Sides, sides}
 use Rattle.pp_desk.specs.declared.desk.Desk.{Desk}

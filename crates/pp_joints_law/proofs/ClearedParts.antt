@@ -307,7 +307,7 @@ can_anew n f can = by (entry_of n f) refl
   where
     by : (o : Option Entry) → entry_of n f ≡ o → Can (elim o as (λ t. Exchanges) [ None ↦ f | Some x ↦ with_errand n (record x.errand { asked = 0 }) f ])
     by None is = can
-    by (Some x) is = can_errand n (record x.errand { asked = 0 }) f x is (record { place = refl; head = refl }) can
+    by (Some x) is = can_errand n (record x.errand { asked = 0 }) f x is refl can
 
 goes_elsewhere : (n : ℕ) (p : Parts) → Stays p (asked_elsewhere n p)
 goes_elsewhere n p = stays_flow p (asked_elsewhere n p).flow (λ can. can_anew n (unplaced n p.flow) (can_unplaced n p.flow can))

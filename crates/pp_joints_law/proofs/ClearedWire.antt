@@ -18,7 +18,7 @@ use Rattle.pp_origins.specs.Asked.{AsksBy, BodyIsAsked, TakenAs, TextIsAsked, as
 use Rattle.pp_origins.specs.Responses.{brought_by, closed_unless, ended_by, ending_by, finished, goes_on_by, origin_gone, response_whole, whole_for, whole_where}
 use Rattle.pp_peers.specs.Peers.{is_number}
 use Rattle.pp_peers.specs.declared.peers.Peer.{Peer}
-use Rattle.pp_joints_law.proofs.Askables.{AsksAlike, can_end, can_errand}
+use Rattle.pp_joints_law.proofs.Askables.{can_end, can_errand}
 use Rattle.pp_joints_law.proofs.ClearedParts.{ClearsIn, Stays, clears_stay, clears_then, itself, stays_as, stays_beside, stays_then}
 use Rattle.pp_joints_law.proofs.ClearedSides.{clears_closed, replies_stay, stays_closed}
 use Rattle.pp_joints_law.proofs.Asks.{Can}
@@ -110,12 +110,12 @@ clears_broken k awake x z is = clears_then x.parts (origin_gone false k x).parts
 
 -- ---- an origin is asked
 
-can_on : (n : ℕ) (f : Errand → Errand) (flow : Exchanges) → ((errand : Errand) → AsksAlike errand (f errand)) → Can flow → Can (on_errand n f flow)
-can_on n f flow alike can = by (entry_of n flow) refl
+can_on : (n : ℕ) (f : Errand → Errand) (flow : Exchanges) → ((errand : Errand) → (f errand).place ≡ errand.place) → Can flow → Can (on_errand n f flow)
+can_on n f flow same can = by (entry_of n flow) refl
   where
     by : (o : Option Entry) → entry_of n flow ≡ o → Can (errand_changed n f (option_map (λ e. e.errand) o) flow)
     by None is = can
-    by (Some x) is = can_errand n (f x.errand) flow x is (alike x.errand) can
+    by (Some x) is = can_errand n (f x.errand) flow x is (same x.errand) can
 
 took_as : (took : Took) (k : ℕ) (awake : List ℕ) (as_taken : ℕ → Sides → Sides) (x z : Sides) → ((n : ℕ) → Stays x.parts (as_taken n x).parts) → TakenAs took k awake as_taken x z → ClearsIn x.parts z.parts
 took_as None k awake as_taken x z one is = clears_stay x.parts z.parts (same_parts x z is)
@@ -125,12 +125,12 @@ took_as (Some (Err fault)) k awake as_taken x z one is = clears_broken k awake x
 text_clears : (o : Option Peer) (k number left now : ℕ) (awake : List ℕ) (links : List Link) (x z : Sides) (old new : Option Log) → TextIsAsked o k number left now awake links x z old new → ClearsIn x.parts z.parts
 text_clears None k number left now awake links x z old new is = clears_stay x.parts z.parts (same_parts x z is.is)
 text_clears (Some peer) k number left now awake links x z old new is =
-    took_as is.took k awake (text_asked k number now) x z (λ n. stays_beside x.parts (text_asked k number now n x).parts refl refl (λ can. can_on number (asked_more n now) x.parts.flow (λ errand. record { place = refl; head = refl }) can)) is.is
+    took_as is.took k awake (text_asked k number now) x z (λ n. stays_beside x.parts (text_asked k number now n x).parts refl refl (λ can. can_on number (asked_more n now) x.parts.flow (λ errand. refl) can)) is.is
 
 body_clears : (o : Option Seat) (k number left i : ℕ) (awake : List ℕ) (links : List Link) (x z : Sides) (old new : Option Log) → BodyIsAsked o k number left i awake links x z old new → ClearsIn x.parts z.parts
 body_clears None k number left i awake links x z old new is = clears_stay x.parts z.parts (same_parts x z is.is)
 body_clears (Some seat) k number left i awake links x z old new is =
-    took_as is.took k awake (body_asked number i) x z (λ n. stays_beside x.parts (body_asked number i n x).parts refl refl (λ can. can_on number (asked_of_body n) x.parts.flow (λ errand. record { place = refl; head = refl }) can)) is.is
+    took_as is.took k awake (body_asked number i) x z (λ n. stays_beside x.parts (body_asked number i n x).parts refl refl (λ can. can_on number (asked_of_body n) x.parts.flow (λ errand. refl) can)) is.is
 
 pub clears_asked : (o : Option Asking) (k now : ℕ) (awake : List ℕ) (links : List Link) (x z : Sides) (old new : Option Log) → AsksBy o k now awake links x z old new → ClearsIn x.parts z.parts
 clears_asked None k now awake links x z old new is = clears_stay x.parts z.parts (same_parts x z is.is)

@@ -1,7 +1,7 @@
 -- Behind the read of an origin that brings nothing of a response what is carried stands.
 use Rattle.std.proofs.Common.{◌≡◌, ◌≤◌, refl, sym, subst, ap, ◌∙◌, ℕ, Bool, true, false, length, take, List, [], ◌∷◌, Option, Some, None, Ok, Err, le_refl}
 use Rattle.std.specs.Prelude.{vec_capacity}
-use Rattle.pp_closings_law.proofs.Peers.{HasPeer, linked}
+use Rattle.pp_turns_law.proofs.Peers.{HasPeer, linked}
 use Rattle.pp_desk.specs.Calls.{Found, read_log}
 use Rattle.pp_desk.specs.declared.desk.Desk.{Desk}
 use Rattle.pp_events_law.proofs.Calls.{its_side}

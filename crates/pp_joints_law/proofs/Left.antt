@@ -3,8 +3,8 @@ use Rattle.std.proofs.Common.{◌≡◌, ◌≤◌, ◌+◌, sym, subst, ap, ◌
 use Rattle.std.specs.List.{All}
 use Rattle.std.specs.Prelude.{vec_capacity}
 use Rattle.pp_cache.specs.Memory.{Memory}
-use Rattle.pp_closings_law.specs.Log.{AreLinked}
-use Rattle.pp_decides_law.proofs.GivenUp.{waiting_in_order}
+use Rattle.pp_turns_law.specs.Log.{AreLinked}
+use Rattle.pp_turns_law.proofs.GivenUp.{waiting_in_order}
 use Rattle.pp_desk.specs.Closings.{Sides, peer_numbers}
 use Rattle.pp_desk.specs.declared.desk.Desk.{Desk}
 use Rattle.pp_evicting_law.specs.Evicting.{HasLeft, IsDoneWithEvent}

@@ -10,7 +10,7 @@ use Rattle.pp_cache_law.proofs.Numbers.{some_is}
 use Rattle.pp_cache_law.proofs.PairLemmas.{lengths_same}
 use Rattle.pp_cache_law.specs.Reads.{IsFound}
 use Rattle.pp_cache_law.specs.Tables.{ShowsChunk, ShowsInstance, ShowsTable}
-use Rattle.pp_closings_law.specs.Log.{AreLinked}
+use Rattle.pp_turns_law.specs.Log.{AreLinked}
 use Rattle.pp_desk.specs.Closings.{peer_numbers, sides}
 use Rattle.pp_desk.specs.declared.desk.Desk.{Desk}
 use Rattle.pp_due.specs.OnDisk.{next_on_disk}

@@ -2,9 +2,9 @@
 use Rattle.std.proofs.Common.{◌≡◌, ◌≤◌, ◌<◌, refl, sym, ap, ◌∙◌, subst, ℕ, ◌/◌, ◌^◌, zero, suc, Bool, true, false, length, map, find, is_some, List, [], ◌∷◌, Option, Some, None, inl, inr, arith}
 use Rattle.std.specs.Prelude.{IfSome, slice_get}
 use Rattle.pp_cache_law.proofs.Numbers.{some_is}
-use Rattle.pp_decides_law.proofs.Filled.{closed_in_turn}
-use Rattle.pp_decides_law.proofs.FollowingOn.{has_source, is_next}
-use Rattle.pp_decides_law.specs.Regains.{AllFollow}
+use Rattle.pp_turns_law.proofs.Filled.{closed_in_turn}
+use Rattle.pp_turns_law.proofs.FollowingOn.{has_source, is_next}
+use Rattle.pp_turns_law.specs.Regains.{AllFollow}
 use Rattle.pp_evicting_law.specs.Evicting.{IsDoneWithEvent, MayLeave}
 use Rattle.pp_flow.specs.Changes.{entry_of}
 use Rattle.pp_flow.specs.Entries.{Span}

@@ -51,9 +51,9 @@ use Rattle.pp_state.specs.Keys.{key_of as key_in_flow}
 use Rattle.pp_state.specs.Known.{row_for, row_in}
 use Rattle.pp_state.specs.Pins.{forgotten_row, idle_row, with_room}
 use Rattle.pp_state.specs.declared.state.State.{State as Turn}
-use Rattle.pp_steps_law.proofs.Charged.{same_entry}
-use Rattle.pp_steps_law.specs.Charges.{IsFor}
-use Rattle.pp_steps_law.specs.Steps.{ShowsSteps}
+use Rattle.pp_states_law.proofs.Charged.{same_entry}
+use Rattle.pp_states_law.specs.Charges.{IsFor}
+use Rattle.pp_states_law.specs.Steps.{ShowsSteps}
 use Rattle.pp_target.specs.Name.{name_of}
 use Rattle.pp_text.specs.Fields.{Field}
 use Rattle.pp_valid.specs.Conditions.{names_other_tag}
@@ -70,12 +70,21 @@ use Rattle.pp_joints_law.specs.HeadsNote.{MayNoteOneMore, OwnHeadsNote}
 
 -- ---- what is noted, from state to state
 
+-- and each entry has the name of its key still
 abbrev pub Notes : List Bytes → List Bytes → State → State → Type 0
-Notes names behind s t = AreNamed s.entries → AreNoted names s.displaced s.entries → AreNoted behind t.displaced t.entries
+Notes names behind s t = AreNamed s.entries → AreNoted names s.displaced s.entries → AreNoted behind t.displaced t.entries × AreNamed t.entries
+
+pub notes_none : (names : List Bytes) (s : State) → Notes names names s s
+notes_none names s named all = (all, named)
+
+pub notes_then : (names mid behind : List Bytes) (s t u : State) → Notes names mid s t → Notes mid behind t u → Notes names behind s u
+notes_then names mid behind s t u one two named all = let first = one named all in two first.1 first.0
 
 pub notes_same : (names behind : List Bytes) (s t : State) → behind ≡ names → t.entries ≡ s.entries → t.displaced ≡ s.displaced → Notes names behind s t
-notes_same names behind s t is entries displaced named all =
-    subst (λ (ns : List Bytes). AreNoted ns t.displaced t.entries) (sym is) (subst (λ (es : List KeptEntry). AreNoted names t.displaced es) (sym entries) (subst (λ (ks : List Bytes). AreNoted names ks s.entries) (sym displaced) all))
+notes_same names behind s t is entries displaced named all = (
+  subst (λ (ns : List Bytes). AreNoted ns t.displaced t.entries) (sym is) (subst (λ (es : List KeptEntry). AreNoted names t.displaced es) (sym entries) (subst (λ (ks : List Bytes). AreNoted names ks s.entries) (sym displaced) all)),
+  subst (λ (es : List KeptEntry). AreNamed es) (sym entries) named,
+)
 
 pub named_behind : (key : Bytes) (s : State) → AreNamed s.entries → AreNamed (clear key s).entries
 unfolding clear swept
@@ -159,7 +168,7 @@ unshared_same e s = record { entries = refl; displaced = refl }
 abbrev pub cleared_if : Exchange → State → Bool → State
 cleared_if e s b = elim b as (λ t. State) [ true ↦ clear (key_of e) s | false ↦ s ]
 
-other_cleared : (e : Exchange) (head : Response) (s : State) → law_cleared_by head e s ≡ cleared_if e s (law_clears head)
+pub other_cleared : (e : Exchange) (head : Response) (s : State) → law_cleared_by head e s ≡ cleared_if e s (law_clears head)
 unfolding law_cleared_by
 other_cleared e head s = refl
 
@@ -187,7 +196,7 @@ told_cache e b p = by (seat_for e p.seats)
     by None = refl
     by (Some i) = refl
 
-seat_cache : (o : Option ℕ) (f : Seat → Seat) (p : Parts) → (on_seat_where o f p).cache ≡ p.cache
+pub seat_cache : (o : Option ℕ) (f : Seat → Seat) (p : Parts) → (on_seat_where o f p).cache ≡ p.cache
 seat_cache None f p = refl
 seat_cache (Some i) f p = refl
 
@@ -203,7 +212,7 @@ row_noted : (id : ObjectId) (key : Bytes) (v : Version) (fields : List Field) (t
 unfolding with_outdated with_row
 row_noted id key v fields times m = refl
 
-refusing_cache : (o : Option Bytes) (p : Parts) → (refusing_key o p).cache ≡ p.cache
+pub refusing_cache : (o : Option Bytes) (p : Parts) → (refusing_key o p).cache ≡ p.cache
 refusing_cache None p = refl
 refusing_cache (Some key) p = refl
 
@@ -245,8 +254,10 @@ module _ (number : ℕ → ℕ) (name : Bytes) (l : Leaving) (peers : List Peer)
   -- its attempt is lost
   useless_notes : (p : Parts) (s : State) → ShowsSteps number name l peers p s → (n : ℕ) (x : Entry) (e : Exchange) → IsAnswered n p s x e → IsFor s e Stands → length p.cache.outdated + count_by is_row p.cache.instances < 2048
       → Notes p.cache.outdated (made_useless x.exchange p).cache.outdated s (useless e s)
-  useless_notes p s shows n x e answered stands room =
-      noted_behind p q s t (rows_show number p.cache s shows.shows.table.table) (rows_show number q.cache t then.shows.table.table) (tidy_shown number p.cache s shows.shows.table.table) (useless_clears e s) turn few
+  useless_notes p s shows n x e answered stands room named all = (
+    noted_behind p q s t (rows_show number p.cache s shows.shows.table.table) (rows_show number q.cache t then.shows.table.table) (tidy_shown number p.cache s shows.shows.table.table) (useless_clears e s) turn few named all,
+    (facts_of (useless_clears e s)).named named,
+  )
     where
       r : Parts
       r = lost_attempt x.exchange p
@@ -276,30 +287,30 @@ module _ (number : ℕ → ℕ) (name : Bytes) (l : Leaving) (peers : List Peer)
     abbrev key : Bytes
     key = key_of e
 
-    key_there : key_in_flow x.exchange.number old.flow ≡ Some key
+    pub key_there : key_in_flow x.exchange.number old.flow ≡ Some key
     key_there = key_is number name l peers old s at.shows n x e at.answered
 
-    shown : ShowsExchange number x e
+    pub shown : ShowsExchange number x e
     shown = same_entry number name l peers old s at.shows n x e (there_too number name l peers old s at.shows n x e at.answered)
 
     few : length old.cache.outdated < 2048
     few = le_less (length old.cache.outdated) 0 (length old.cache.outdated) 0 0 (omega arith) (omega (arith, room))
 
-    loses_notes : Notes old.cache.outdated (made_useless x.exchange old).cache.outdated s (useless e s)
+    pub loses_notes : Notes old.cache.outdated (made_useless x.exchange old).cache.outdated s (useless e s)
     loses_notes = useless_notes old s at.shows n x e at.answered at.stands (omega (arith, room))
 
     -- ---- its row is cleared
 
-    clears_notes : (behind : List Bytes) (u : State) → behind ≡ outdated_by (name_of key) old.cache.outdated → SameEntries (clear key s) u → Notes old.cache.outdated behind s u
+    pub clears_notes : (behind : List Bytes) (u : State) → behind ≡ outdated_by (name_of key) old.cache.outdated → SameEntries (clear key s) u → Notes old.cache.outdated behind s u
     clears_notes behind u is same = notes_cleared key old.cache behind s u few is same.entries same.displaced
 
     another_notes : Notes old.cache.outdated (made_useless x.exchange (cleared_row x.exchange.number old)).cache.outdated s (useless e (clear key s))
     another_notes named all =
         useless_notes (cleared_row x.exchange.number old) (clear key s) (row_cleared number name l peers old s at.shows n x e at.answered) n x e (answered_cleared n old s x e key at.answered) (stands_cleared e key s at.stands)
         (subst (λ (o : Option Bytes). length (cleared_of o old).cache.outdated + count_by is_row (cleared_of o old).cache.instances < 2048) (sym key_there) (omega (arith, key_room key old, room)))
-        (named_behind key s named) (clears_notes (cleared_row x.exchange.number old).cache.outdated (clear key s) (cleared_noted (key_in_flow x.exchange.number old.flow) key old key_there) (same_self (clear key s)) named all)
+        (named_behind key s named) (clears_notes (cleared_row x.exchange.number old).cache.outdated (clear key s) (cleared_noted (key_in_flow x.exchange.number old.flow) key old key_there) (same_self (clear key s)) named all).0
 
-    unshared_notes : Notes old.cache.outdated (not_shared x.exchange x.errand old).cache.outdated s (law_not_shared e s)
+    pub unshared_notes : Notes old.cache.outdated (not_shared x.exchange x.errand old).cache.outdated s (law_not_shared e s)
     unshared_notes = clears_notes (not_shared x.exchange x.errand old).cache.outdated (law_not_shared e s) is (unshared_same e s)
       where
         q : Parts
@@ -420,7 +431,7 @@ module _ (number : ℕ → ℕ) (name : Bytes) (l : Leaving) (peers : List Peer)
     row_is : row_for x.exchange.number old ≡ option_map (λ (i : Instance). (id_of i, i.version)) (row_of key old.cache.instances)
     row_is = ap (λ (o : Option Bytes). option_and_then (λ k. row_in k old.cache) o) key_there
 
-    settled : (v : Version) (new : Parts) → Settles x.exchange x.errand head v t.now (row_for x.exchange.number old) (parts (with_room_for (row_for x.exchange.number old) t)) new → Notes old.cache.outdated new.cache.outdated s (settle e head v s)
+    pub settled : (v : Version) (new : Parts) → Settles x.exchange x.errand head v t.now (row_for x.exchange.number old) (parts (with_room_for (row_for x.exchange.number old) t)) new → Notes old.cache.outdated new.cache.outdated s (settle e head v s)
     settled v new taken =
         subst (λ (u : State). Notes old.cache.outdated new.cache.outdated s u) (sym (settle_is v))
         (settles v new (row_of key old.cache.instances) (row s key) refl refl (rows_of number old.cache s at.shows.shows.table.table key)
@@ -502,7 +513,7 @@ module _ (number : ℕ → ℕ) (name : Bytes) (l : Leaving) (peers : List Peer)
     said_is known =
         each_said (λ u. not_modified_as x.exchange x.errand head t.now u old) (may_store head.fields) known (λ seen. names_other_tag head.fields seen.1.tag) (λ seen. names_tag (named_by x.errand.kind) seen.1.tag) _ _ _ _
 
-    modified : Notes old.cache.outdated (not_modified x.exchange x.errand head t.now old).cache.outdated s (law_not_modified e head s)
+    pub modified : Notes old.cache.outdated (not_modified x.exchange x.errand head t.now old).cache.outdated s (law_not_modified e head s)
     modified =
         subst (λ (u : State). Notes old.cache.outdated (not_modified x.exchange x.errand head t.now old).cache.outdated s u) (sym law_is)
         (subst (λ (q : Parts). Notes old.cache.outdated q.cache.outdated s (by_sharing (may_store head.fields) (known_version s key)))
@@ -524,14 +535,13 @@ module _ (number : ℕ → ℕ) (name : Bytes) (l : Leaving) (peers : List Peer)
 
         by : (b : Bool) → Notes old.cache.outdated (cleared_where b).cache.outdated s (cleared_if e s b)
         by true = clears_notes (cleared_row x.exchange.number old).cache.outdated (clear key s) (cleared_noted (key_in_flow x.exchange.number old.flow) key old key_there) (same_self (clear key s))
-        by false = λ named all. all
+        by false = notes_none old.cache.outdated s
 
         notes_to : (q : Parts) → (other_head t.name.items x.exchange x.errand head rule old).cache.outdated ≡ q.cache.outdated → SameEntries (cleared_if e s (law_clears head)) (law_other_head e head rule s) → Notes old.cache.outdated q.cache.outdated s (cleared_if e s (law_clears head))
             → Notes old.cache.outdated (other_head t.name.items x.exchange x.errand head rule old).cache.outdated s (law_other_head e head rule s)
-        notes_to q is same notes named all =
-            subst (λ (ns : List Bytes). AreNoted ns (law_other_head e head rule s).displaced (law_other_head e head rule s).entries) (sym is)
-            (subst (λ (es : List KeptEntry). AreNoted q.cache.outdated (law_other_head e head rule s).displaced es) (sym same.entries)
-            (subst (λ (ks : List Bytes). AreNoted q.cache.outdated ks (cleared_if e s (law_clears head)).entries) (sym same.displaced) (notes named all)))
+        notes_to q is same notes =
+            notes_then old.cache.outdated q.cache.outdated (other_head t.name.items x.exchange x.errand head rule old).cache.outdated s (cleared_if e s (law_clears head)) (law_other_head e head rule s) notes
+            (notes_same q.cache.outdated (other_head t.name.items x.exchange x.errand head rule old).cache.outdated (cleared_if e s (law_clears head)) (law_other_head e head rule s) is same.entries same.displaced)
 
     abbrev own_by : Option Version → State
     own_by o = elim o as (λ u. State) [ Some v ↦ settle e head v s | None ↦ elim (head.status == 304) as (λ u. State) [ true ↦ law_not_modified e head s | false ↦ law_other_head e head rule s ] ]
@@ -554,4 +564,4 @@ module _ (number : ℕ → ℕ) (name : Bytes) (l : Leaving) (peers : List Peer)
         (takes new (law_version_in e head) (subst (λ (o : Option Version). TakesOwn x.exchange x.errand head rule o t new) (versions number x e head shown) taken))
 
 pub own_heads_note : OwnHeadsNote
-own_heads_note number name l peers t s n x e head rule new at room taken named all = own_notes number name l peers t s n x e head rule at room new taken named all
+own_heads_note number name l peers t s n x e head rule new at room taken named all = (own_notes number name l peers t s n x e head rule at room new taken named all).0

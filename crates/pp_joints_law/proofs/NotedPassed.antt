@@ -2,11 +2,12 @@
 -- behind it.
 use Rattle.std.proofs.Common.{◌≡◌, ◌≤◌, ◌<◌, ◌+◌, refl, sym, subst, ap, ◌∙◌, ℕ, Bool, true, false, ◌&&◌, is_some, length, take, List, [], ◌∷◌, Option, Some, None, option_map, arith}
 use Rattle.std.specs.Prelude.{count_by}
+use Rattle.pp_answers.specs.FinalHeads.{PassesHead}
 use Rattle.pp_answers.specs.ThroughHeads.{ClearsEach, InvalidatesIf, InvalidatesRows, disproved, is_disproved, is_disproved_by}
 use Rattle.pp_answers_law.proofs.Dropped.{there_too}
 use Rattle.pp_answers_law.proofs.Through.{IsLeft, disproved_left, law_invalidated_if, law_invalidated_is, passed_cleared, through_is}
 use Rattle.pp_answers_law.proofs.Useless.{key_is, row_cleared}
-use Rattle.pp_cache_law.specs.Outdated.{AreNamed, AreNoted}
+use Rattle.pp_answers_law.specs.Throughs.{IsPassed}
 use Rattle.pp_flow.specs.declared.entry.Entry.{Entry}
 use Rattle.pp_flow_law.specs.Tables.{Leaving}
 use Rattle.pp_framing.specs.declared.body.BodyRule.{BodyRule}
@@ -14,28 +15,21 @@ use Rattle.pp_head.specs.Response.{Response}
 use Rattle.pp_heads_law.proofs.Ruled.{invalidated as invalidates_same}
 use Rattle.pp_law.specs.Lists.{Bytes, is_some_with}
 use Rattle.pp_law.specs.OwnHeads.{key_of, known_version as law_known, relay_head}
-use Rattle.pp_law.specs.State.{State, Entry as KeptEntry, Exchange, Instance as Known}
+use Rattle.pp_law.specs.State.{State, Exchange, Instance as Known}
 use Rattle.pp_law.specs.Table.{clear, row}
 use Rattle.pp_law.specs.ThroughHeads.{clear_each, disproved as law_disproved, disproves as law_disproves, invalidated as law_invalidated, invalidates as law_invalidates, places_named as law_places, reads as law_reads, through_head}
 use Rattle.pp_objects.specs.Instances.{Instance, is_row, row_of}
 use Rattle.pp_peers.specs.declared.peers.Peer.{Peer}
 use Rattle.pp_state.specs.Ends.{Parts, cleared_key, cleared_of, cleared_row, known_version, version_at}
 use Rattle.pp_state.specs.Keys.{key_of as key_in_flow}
-use Rattle.pp_steps_law.proofs.Charged.{same_entry}
+use Rattle.pp_states_law.proofs.Charged.{same_entry}
+use Rattle.pp_states_law.specs.Steps.{ShowsSteps}
 use Rattle.pp_valid.specs.declared.version.Version.{Version}
-use Rattle.pp_joints_law.proofs.ClearedLaw.{Clears, clear-clears, clears_none, when_so}
+use Rattle.pp_joints_law.proofs.ClearedLaw.{Clears, clear-clears, clears_none, facts_of, when_so}
 use Rattle.pp_joints_law.proofs.ClearedParts.{ClearsIn, clears_stay, itself, key_cleared}
 use Rattle.pp_joints_law.proofs.NotedBehind.{noted_behind, rows_show, tidy_shown}
-use Rattle.pp_joints_law.proofs.NotedHeads.{Notes, SameEntries, cleared_noted, key_room, named_behind, notes_cleared, relayed_same}
+use Rattle.pp_joints_law.proofs.NotedHeads.{Notes, SameEntries, cleared_noted, key_room, notes_cleared, notes_none, notes_same, notes_then, relayed_same}
 use Rattle.pp_joints_law.specs.HeadsNote.{MayNoteOneMore, PassedHeadsNote}
-
--- from where names are noted to where more are, with room for one more as often as that is asked
-pub record NotesTo (names behind : List Bytes) (s t : State) : Type 0 where
-  pub notes : Notes names behind s t
-  pub named : AreNamed s.entries → AreNamed t.entries
-
-notes_none : (names : List Bytes) (s : State) → NotesTo names names s s
-notes_none names s = record { notes = λ named all. all; named = λ named. named }
 
 nothing_each : (e : Exchange) (s : State) → clear_each e.key [] s ≡ s
 unfolding clear_each
@@ -49,14 +43,14 @@ module _ (number : ℕ → ℕ) (name : Bytes) (l : Leaving) (peers : List Peer)
   key = key_of e
 
   -- so far, from there
-  record IsSoFar (p : Parts) (s : State) (q : Parts) (t : State) : Type 0 where
-    left : IsLeft number name l peers q t n x e
-    notes : NotesTo p.cache.outdated q.cache.outdated s t
+  pub record IsSoFar (p : Parts) (s : State) (q : Parts) (t : State) : Type 0 where
+    pub left : IsLeft number name l peers q t n x e
+    pub notes : Notes p.cache.outdated q.cache.outdated s t
 
-  so_far : (p : Parts) (s : State) → IsLeft number name l peers p s n x e → IsSoFar p s p s
+  pub so_far : (p : Parts) (s : State) → IsLeft number name l peers p s n x e → IsSoFar p s p s
   so_far p s left = record { left = left; notes = notes_none p.cache.outdated s }
 
-  so_as : (p q r : Parts) (s t u : State) → r ≡ q → u ≡ t → IsSoFar p s q t → IsSoFar p s r u
+  pub so_as : (p q r : Parts) (s t u : State) → r ≡ q → u ≡ t → IsSoFar p s q t → IsSoFar p s r u
   so_as p q r s t u one two is = subst (λ (z : Parts). IsSoFar p s z u) (sym one) (subst (λ (v : State). IsSoFar p s q v) (sym two) is)
 
   its_key : (p : Parts) (s : State) → IsLeft number name l peers p s n x e → key_in_flow x.exchange.number p.flow ≡ Some key
@@ -66,10 +60,7 @@ module _ (number : ℕ → ℕ) (name : Bytes) (l : Leaving) (peers : List Peer)
   clears : (p : Parts) (s : State) → IsLeft number name l peers p s n x e → length p.cache.outdated < 2048 → IsSoFar p s (cleared_row x.exchange.number p) (clear key s)
   clears p s left few = record {
     left = record { shows = row_cleared number name l peers p s left.shows n x e left.passed.answered; passed = passed_cleared p s n x e left.passed };
-    notes = record {
-      notes = notes_cleared key p.cache (cleared_row x.exchange.number p).cache.outdated s (clear key s) few (cleared_noted (key_in_flow x.exchange.number p.flow) key p (its_key p s left)) refl refl;
-      named = named_behind key s;
-    };
+    notes = notes_cleared key p.cache (cleared_row x.exchange.number p).cache.outdated s (clear key s) few (cleared_noted (key_in_flow x.exchange.number p.flow) key p (its_key p s left)) refl refl;
   }
 
   -- ---- what an unsafe method changed
@@ -123,9 +114,11 @@ module _ (number : ℕ → ℕ) (name : Bytes) (l : Leaving) (peers : List Peer)
   less_few a b c d one two = omega (arith, one, two)
 
   shows_other : (p : Parts) (s : State) → IsLeft number name l peers p s n x e → length p.cache.outdated + count_by is_row p.cache.instances < 2048 → Notes p.cache.outdated (disproved x.exchange x.errand head p).cache.outdated s (law_disproved e head s)
-  shows_other p s left few =
-      noted_behind p q s t (rows_show number p.cache s left.shows.shows.table.table) (rows_show number q.cache t then.shows.shows.table.table) (tidy_shown number p.cache s left.shows.shows.table.table) (law_clears s) (turn_clears p)
-      (less_few (length q.cache.outdated) (count_by is_row q.cache.instances) (length p.cache.outdated) (count_by is_row p.cache.instances) (turn_clears p).few few)
+  shows_other p s left few named all = (
+    noted_behind p q s t (rows_show number p.cache s left.shows.shows.table.table) (rows_show number q.cache t then.shows.shows.table.table) (tidy_shown number p.cache s left.shows.shows.table.table) (law_clears s) (turn_clears p)
+        (less_few (length q.cache.outdated) (count_by is_row q.cache.instances) (length p.cache.outdated) (count_by is_row p.cache.instances) (turn_clears p).few few) named all,
+    (facts_of (law_clears s)).named named,
+  )
     where
       q : Parts
       q = disproved x.exchange x.errand head p
@@ -153,13 +146,13 @@ module _ (number : ℕ → ℕ) (name : Bytes) (l : Leaving) (peers : List Peer)
 
   -- ---- all of it
 
-  passes : (p : Parts) (s : State) (rule : BodyRule) (new between : Parts) → IsLeft number name l peers p s n x e → law_places head ≡ [] → MayNoteOneMore p → InvalidatesIf (law_invalidates e head) (key_in_flow x.exchange.number p.flow) x.errand.place.path head p between
-      → new.cache.outdated ≡ (disproved x.exchange x.errand head between).cache.outdated → Notes p.cache.outdated new.cache.outdated s (through_head e head rule s)
-  passes p s rule new between left none room it same named all =
-      subst (λ (t : State). AreNoted new.cache.outdated t.displaced t.entries) (sym (through_is e head rule s))
-      (subst (λ (ns : List Bytes). AreNoted ns (relay_head e head rule after).displaced (relay_head e head rule after).entries) (sym same)
-      (subst (λ (es : List KeptEntry). AreNoted (disproved x.exchange x.errand head between).cache.outdated (relay_head e head rule after).displaced es) (sym relays.entries)
-      (subst (λ (ks : List Bytes). AreNoted (disproved x.exchange x.errand head between).cache.outdated ks after.entries) (sym relays.displaced) (both named all))))
+  -- where what an unsafe method changed was cleared
+  pub passes_from : (p : Parts) (s : State) (rule : BodyRule) (new between : Parts) → IsSoFar p s between (law_invalidated e head s) → sum between < 2048 → new.cache.outdated ≡ (disproved x.exchange x.errand head between).cache.outdated
+      → Notes p.cache.outdated new.cache.outdated s (through_head e head rule s)
+  passes_from p s rule new between first few same =
+      subst (λ (t : State). Notes p.cache.outdated new.cache.outdated s t) (sym (through_is e head rule s))
+      (notes_then p.cache.outdated between.cache.outdated new.cache.outdated s mid (relay_head e head rule after) first.notes
+      (notes_then between.cache.outdated shown new.cache.outdated mid after (relay_head e head rule after) (shows_other between mid first.left few) (notes_same shown new.cache.outdated after (relay_head e head rule after) same relays.entries relays.displaced)))
     where
       mid : State
       mid = law_invalidated e head s
@@ -167,23 +160,27 @@ module _ (number : ℕ → ℕ) (name : Bytes) (l : Leaving) (peers : List Peer)
       after : State
       after = law_disproved e head mid
 
-      first : IsSoFar p s between mid
-      first =
-          so_as p between between s (law_invalidated_if e head s (law_invalidates e head)) mid refl (law_invalidated_is e head s)
-          (invalid p between s (law_invalidates e head) left none (first_few (length p.cache.outdated) (count_by is_row p.cache.instances) room) it)
-
-      few : sum between < 2048
-      few = less (sum between) (sum p) (no_longer p between (law_invalidates e head) (its_key p s left) none it) room
-
-      both : Notes p.cache.outdated (disproved x.exchange x.errand head between).cache.outdated s after
-      both named all = shows_other between mid first.left few (first.notes.named named) (first.notes.notes named all)
+      shown : List Bytes
+      shown = (disproved x.exchange x.errand head between).cache.outdated
 
       relays : SameEntries after (relay_head e head rule after)
       relays = relayed_same e head rule after
 
-pub passed_heads_note : PassedHeadsNote
-passed_heads_note number name l peers p s n x e head rule new shows passed none room passes_head named all =
+  passes : (p : Parts) (s : State) (rule : BodyRule) (new between : Parts) → IsLeft number name l peers p s n x e → law_places head ≡ [] → MayNoteOneMore p → InvalidatesIf (law_invalidates e head) (key_in_flow x.exchange.number p.flow) x.errand.place.path head p between
+      → new.cache.outdated ≡ (disproved x.exchange x.errand head between).cache.outdated → Notes p.cache.outdated new.cache.outdated s (through_head e head rule s)
+  passes p s rule new between left none room it same =
+      passes_from p s rule new between
+      (so_as p between between s (law_invalidated_if e head s (law_invalidates e head)) (law_invalidated e head s) refl (law_invalidated_is e head s)
+      (invalid p between s (law_invalidates e head) left none (first_few (length p.cache.outdated) (count_by is_row p.cache.instances) room) it))
+      (less (sum between) (sum p) (no_longer p between (law_invalidates e head) (its_key p s left) none it) room) same
+
+pub passed_notes : (number : ℕ → ℕ) (name : Bytes) (l : Leaving) (peers : List Peer) (p : Parts) (s : State) (n : ℕ) (x : Entry) (e : Exchange) (head : Response) (rule : BodyRule) (new : Parts) → ShowsSteps number name l peers p s → IsPassed p s n x e → law_places head ≡ [] → MayNoteOneMore p
+    → PassesHead name x.exchange x.errand head rule p new → Notes p.cache.outdated new.cache.outdated s (through_head e head rule s)
+passed_notes number name l peers p s n x e head rule new shows passed none room passes_head =
     passes number name l peers n x e head p s rule new passes_head.outdated.between (record { shows = shows; passed = passed }) none room
     (subst (λ (b : Bool). InvalidatesIf b (key_in_flow x.exchange.number p.flow) x.errand.place.path head p passes_head.outdated.between)
     (invalidates_same number x e head (same_entry number name l peers p s shows n x e (there_too number name l peers p s shows n x e passed.answered))) passes_head.outdated.invalidated)
-    (ap (λ (q : Parts). q.cache.outdated) passes_head.passed ∙ ap (λ (q : Parts). q.cache.outdated) passes_head.outdated.cleared) named all
+    (ap (λ (q : Parts). q.cache.outdated) passes_head.passed ∙ ap (λ (q : Parts). q.cache.outdated) passes_head.outdated.cleared)
+
+pub passed_heads_note : PassedHeadsNote
+passed_heads_note number name l peers p s n x e head rule new shows passed none room passes_head named all = (passed_notes number name l peers p s n x e head rule new shows passed none room passes_head named all).0

@@ -1,7 +1,7 @@
 -- A head that answers no ask of its kind is none: its connection is closed, and rows are cleared as attempts are lost, in the program as in the law.
-use Rattle.std.proofs.Common.{◌≡◌, ◌≤◌, ◌<◌, ◌+◌, sym, subst, ap, ◌∙◌, ℕ, Bool, true, false, ◌&&◌, not, find, length, List, Option, Some, None, arith}
+use Rattle.std.proofs.Common.{◌≡◌, ◌≤◌, ◌<◌, ◌+◌, sym, subst, ap, ◌∙◌, ℕ, Bool, true, false, ◌&&◌, not, find, length, List, [], Option, Some, None, arith}
 use Rattle.std.specs.Prelude.{count_by}
-use Rattle.pp_answers_law.specs.Takes.{OwnAnswersAreTheLaws, PassedAnswersAreTheLaws, RulesAreTheLaws}
+use Rattle.pp_answers_law.specs.Takes.{OwnAnswersAreTheLaws, PartAnswersAreTheLaws, PassedAnswersAreTheLaws, RulesAreTheLaws}
 use Rattle.pp_cache_law.proofs.Alike.{room_of}
 use Rattle.pp_cache_law.proofs.Numbers.{some_is}
 use Rattle.pp_cache_law.specs.Outdated.{AreNamed, AreNoted}
@@ -10,20 +10,23 @@ use Rattle.pp_desk.specs.Closings.{Sides, with_parts}
 use Rattle.pp_flow.specs.Changes.{entry_of}
 use Rattle.pp_flow.specs.declared.entry.Entry.{Entry}
 use Rattle.pp_flow.specs.declared.entry.Exchange.{Exchange as SeatExchange}
+use Rattle.pp_framing.specs.declared.body.BodyRule.{BodyRule}
 use Rattle.pp_head.specs.Response.{Response}
 use Rattle.pp_law.specs.Connections.{front_of_line}
 use Rattle.pp_law.specs.Lists.{Bytes}
-use Rattle.pp_law.specs.OwnHeads.{key_of}
+use Rattle.pp_law.specs.OwnHeads.{is_wrong_head, key_of}
 use Rattle.pp_law.specs.Responses.{bad_head, bad_response as law_bad_response, head_came}
 use Rattle.pp_law.specs.State.{State, Conn, Entry as KeptEntry, Exchange}
 use Rattle.pp_law.specs.Table.{rows}
 use Rattle.pp_objects.specs.Instances.{is_row}
-use Rattle.pp_origins.specs.Gots.{Both, HeadCameFor}
+use Rattle.pp_origins.specs.Gots.{Both, HeadCame, HeadCameFor}
 use Rattle.pp_origins.specs.Responses.{bad_answer, bad_by, bad_for, bad_on, bad_response, charged_by, has_brought_in}
 use Rattle.pp_peers.specs.Peers.{is_number as is_peer}
 use Rattle.pp_reads_law.proofs.Brings.{IsBeside, beside_brought}
 use Rattle.pp_reads_law.proofs.HeadsCome.{RefusedHead, first_is, heads_come, refused_head}
-use Rattle.pp_reads_law.specs.Heads.{HeadIsRefused, HeadLeads, IsGivenBeside, IsGivenHead, with_head}
+use Rattle.pp_peers.specs.declared.peers.Peer.{Peer}
+use Rattle.pp_pipe.specs.Reading.{Reading}
+use Rattle.pp_reads_law.specs.Heads.{HeadIsDue, HeadIsRead, HeadIsRefused, HeadLeads, IsGivenBeside, IsGivenHead, MayAnswer, ShowsBoth, with_head}
 use Rattle.pp_state.specs.Asking.{is_outstanding}
 use Rattle.pp_state.specs.Ends.{Parts, ended, failed, parts}
 use Rattle.pp_state.specs.Keys.{key_of as key_in_flow}
@@ -35,8 +38,8 @@ use Rattle.pp_joints_law.proofs.ClearedParts.{ClearsIn, clears_as, clears_stay, 
 use Rattle.pp_joints_law.proofs.ClearedSides.{clears_closed}
 use Rattle.pp_joints_law.proofs.ClearedSteps.{close_conn-clears, end_exchange-clears, fail-clears, lose_attempt-clears}
 use Rattle.pp_joints_law.proofs.NotedBehind.{noted_behind, rows_show, tidy_shown}
-use Rattle.pp_joints_law.proofs.NotedCome.{IsAlike, IsEntered, beside_alike, brings}
-use Rattle.pp_joints_law.specs.HeadsNote.{IsTied, RefusedHeadsTie}
+use Rattle.pp_joints_law.proofs.NotedBeside.{IsAlike, IsEntered, beside_alike, brings}
+use Rattle.pp_joints_law.specs.HeadsNote.{IsTied, RefusedHeadsTie, others_told}
 
 -- ---- of the program
 
@@ -73,8 +76,7 @@ bad_head_clears k s h = when k.has_brought (each_of (front_of_line s k) (close_c
 
 -- ---- both
 
-module _ (shelf : KeptMap) (x y : Both) (s : State) (n : ℕ) (k : Conn) (e : Exchange) (head : Response) (given : RefusedHead shelf x y s n k e head) (number1 : ℕ → ℕ) (table : ShowsTable number1 y.state.cache (head_came k head s)) (few : length x.state.cache.outdated + rows s + 2 < 2048) (named : AreNamed s.entries)
-    (tied : IsTied x.state s) where
+module _ (shelf : KeptMap) (x y : Both) (s : State) (n : ℕ) (k : Conn) (e : Exchange) (head : Response) (given : RefusedHead shelf x y s n k e head) (number1 : ℕ → ℕ) (table : ShowsTable number1 y.state.cache (head_came k head s)) (few : length x.state.cache.outdated + rows s + 2 < 2048) (tied : IsTied x.state s) where
   abbrev p : Turn
   p = given.beside
 
@@ -114,35 +116,49 @@ module _ (shelf : KeptMap) (x y : Both) (s : State) (n : ℕ) (k : Conn) (e : Ex
       subst (λ (es : List KeptEntry). AreNoted p.cache.outdated u.displaced es) (sym beside.entries)
       (subst (λ (ks : List Bytes). AreNoted p.cache.outdated ks s.entries) (sym beside.displaced) (subst (λ (ns : List Bytes). AreNoted ns s.displaced s.entries) (sym alike.noted) tied.noted))
 
+  named_then : AreNamed u.entries
+  named_then = subst (λ (es : List KeptEntry). AreNamed es) (sym beside.entries) tied.named
+
   facts : Cleared u (bad_head k u).entries (bad_head k u).displaced (bad_head k u).instances (bad_head k u).forgotten (bad_head k u).is_evicting
   facts = facts_of law
 
   is_tied : IsTied y.state (head_came k head s)
   is_tied = subst (λ (v : State). IsTied y.state v) (sym given.law_is) (record {
     noted = noted_behind (parts p) (parts y.state) u (bad_head k u) (rows_show given.number p.cache u here) (rows_show number1 y.state.cache (bad_head k u) (subst (λ (v : State). ShowsTable number1 y.state.cache v) given.law_is table)) (tidy_shown given.number p.cache u here) law turn room
-        (subst (λ (es : List KeptEntry). AreNamed es) (sym beside.entries) named) noted_then;
+        named_then noted_then;
+    named = facts.named named_then;
     leaves = record {
       forgotten = ap (λ (q : Turn). q.forgotten) given.rest ∙ given.shows.forgotten ∙ sym facts.forgotten_is;
       evicting = ap (λ (q : Turn). q.is_evicting) given.rest ∙ alike.evicting ∙ tied.leaves.evicting ∙ sym (facts.evicting_is ∙ entered.evicting);
     };
   })
 
-pub refused_heads_tie : RulesAreTheLaws → OwnAnswersAreTheLaws → PassedAnswersAreTheLaws → RefusedHeadsTie
-refused_heads_tie rules own passed number shelf x y s n k e peer head rule left shows due read may room named it given none tied wrong =
-    by (first_on n (parts x.state)) (first_is rules own passed number shelf x y s n k e peer head rule left shows due read may) it given
+-- what stands beside the row of its key, where it is refused
+pub refused_there : RulesAreTheLaws → OwnAnswersAreTheLaws → PassedAnswersAreTheLaws → PartAnswersAreTheLaws → (number : ℕ → ℕ) (shelf : KeptMap) (x y : Both) (s : State) (n : ℕ) (k : Conn) (e : Exchange) (peer : Peer) (head : Response) (rule : BodyRule) (left : Reading) → ShowsBoth number shelf x s → HeadIsDue x s n k e peer → HeadIsRead e head rule left
+    → MayAnswer x.state s e head → (it : HeadCame shelf n (with_head n peer left x) y) → IsGivenHead (first_on n (parts x.state)) shelf n (with_head n peer left x) y it → y.state.refused ≡ [] → is_wrong_head e head ≡ true → RefusedHead shelf x y s n k e head
+refused_there rules own passed part number shelf x y s n k e peer head rule left shows due read may it given none wrong =
+    by (first_on n (parts x.state)) (first_is rules own passed part number shelf x y s n k e peer head rule left shows due read may) it given
   where
-    few : length x.state.cache.outdated + rows s + 2 < 2048
-    few = subst (λ (m : ℕ). length x.state.cache.outdated + m + 2 < 2048) (room_of number x.state.cache s shows.read.turn.steps.shows.table.table) room
-
-    leads : HeadIsRefused y s k head
-    leads = subst (λ (b : Bool). HeadLeads b y s n k e head rule) wrong (heads_come rules own passed number shelf x y s n k e peer head rule left shows due read may it given none)
-
-    at : (m : ℕ) → m ≡ e.number → (it : HeadCameFor (Some m) shelf n (with_head n peer left x) y) → IsGivenBeside shelf n m (with_head n peer left x) y it → IsTied y.state (head_came k head s)
+    at : (m : ℕ) → m ≡ e.number → (it : HeadCameFor (Some m) shelf n (with_head n peer left x) y) → IsGivenBeside shelf n m (with_head n peer left x) y it → RefusedHead shelf x y s n k e head
     at m same =
-        subst (λ (m : ℕ). (it : HeadCameFor (Some m) shelf n (with_head n peer left x) y) → IsGivenBeside shelf n m (with_head n peer left x) y it → IsTied y.state (head_came k head s)) (sym same)
-        (λ it given.
-        is_tied shelf x y s n k e head (refused_head rules own passed number shelf x y s n k e peer head rule left shows due read may it given none wrong) leads.number leads.shows.steps.shows.table.table few named tied)
+        subst (λ (m : ℕ). (it : HeadCameFor (Some m) shelf n (with_head n peer left x) y) → IsGivenBeside shelf n m (with_head n peer left x) y it → RefusedHead shelf x y s n k e head) (sym same)
+        (λ it given. refused_head rules own passed part number shelf x y s n k e peer head rule left shows due read may it given none wrong)
 
-    by : (o : Option ℕ) → o ≡ Some e.number → (it : HeadCameFor o shelf n (with_head n peer left x) y) → IsGivenHead o shelf n (with_head n peer left x) y it → IsTied y.state (head_came k head s)
+    by : (o : Option ℕ) → o ≡ Some e.number → (it : HeadCameFor o shelf n (with_head n peer left x) y) → IsGivenHead o shelf n (with_head n peer left x) y it → RefusedHead shelf x y s n k e head
     by None is it given = absurd (cc is)
     by (Some m) is it given = at m (some_is m e.number is) it given
+
+pub refused_heads_tie : RulesAreTheLaws → OwnAnswersAreTheLaws → PassedAnswersAreTheLaws → PartAnswersAreTheLaws → RefusedHeadsTie
+refused_heads_tie rules own passed part number shelf x y s n k e peer head rule left shows due read may room it given none straight tied wrong =
+    is_tied shelf x y s n k e head (refused_there rules own passed part number shelf x y s n k e peer head rule left shows due read may it given none wrong) leads.number leads.shows.steps.shows.table.table few tied
+  where
+    fewer : (a b m : ℕ) → a + b + (3 + m) < 2048 → a + b + 2 < 2048
+    fewer a b m one = omega (arith, one)
+
+    few : length x.state.cache.outdated + rows s + 2 < 2048
+    few =
+        subst (λ (m : ℕ). length x.state.cache.outdated + m + 2 < 2048) (room_of number x.state.cache s shows.read.turn.steps.shows.table.table)
+        (fewer (length x.state.cache.outdated) (count_by is_row x.state.cache.instances) (others_told e head) room)
+
+    leads : HeadIsRefused number x y s k head
+    leads = subst (λ (b : Bool). HeadLeads number b x y s n k e head rule) wrong (heads_come rules own passed part number shelf x y s n k e peer head rule left shows due read may it given none straight)

@@ -1,4 +1,4 @@
--- Where the head of a response to a Fetch or Validate makes a row, another leaves memory for it in the program where it does in the law.
+-- Where the head of a response to a Fetch or Validate, or to the ask of a follower, makes a row, another leaves memory for it in the program where it does in the law.
 use Rattle.std.proofs.Common.{◌≡◌, refl, sym, subst, ap, ap₂, ◌∙◌, ℕ, Bool, true, false, ◌==◌, ◌&&◌, ◌||◌, cond, find, length, nat_le, nat_lt, List, [], ◌∷◌, ◌++◌, Option, Some, None, option_map, option_and_then, arith}
 use Rattle.std.proofs.lemmas.Bool.Decides.{nat_tests}
 use Rattle.std.specs.Prelude.{count_by}
@@ -23,7 +23,7 @@ use Rattle.pp_head.specs.Response.{Response}
 use Rattle.pp_heads_law.proofs.Ruled.{versions}
 use Rattle.pp_law.specs.Connections.{on_client_of, on_exchange}
 use Rattle.pp_law.specs.Lists.{Bytes, is_some_with}
-use Rattle.pp_law.specs.OwnHeads.{cleared_by as law_cleared_by, clears_row as law_clears, drop_answer, forbids_sharing, is_of_another, is_widened as law_widened, key_of, known_version, may_join as law_may_join, may_refresh as law_may_refresh, names_version, not_modified as law_not_modified, not_shared as law_not_shared, other_head as law_other_head, own_head, relay_head, renew, renew_row, settle, settle_known, settle_on, settle_unchanged, tell, times_for as law_times, unchanged, use_body, useless, version_in as law_version_in}
+use Rattle.pp_law.specs.OwnHeads.{cleared_by as law_cleared_by, clears_row as law_clears, drop_answer, filling_head, forbids_sharing, is_of_another, is_private_part as law_private, is_widened as law_widened, count_elsewhere, key_of, known_version, may_join as law_may_join, may_refresh as law_may_refresh, names_version, not_modified as law_not_modified, not_shared as law_not_shared, other_head as law_other_head, other_part as law_other_part, own_head, part_head, relay_head, renew, renew_row, settle, settle_known, settle_on, settle_unchanged, tell, times_for as law_times, unchanged, use_body, useless, version_in as law_version_in}
 use Rattle.pp_law.specs.State.{State, Body as LawBody, Brought as LawBrought, Dropping, Exchange, Instance as Known, TooWide}
 use Rattle.pp_law.specs.Table.{add_row, clear, forget, forget_row, idle_row as law_idle, make_row, mark_row, on_instance, row, rows, swept, with_room as law_with_room}
 use Rattle.pp_objects.specs.Instances.{Instance, id_of, is_idle, is_row, row_of}
@@ -37,12 +37,13 @@ use Rattle.pp_state.specs.Keys.{key_of as key_in_flow}
 use Rattle.pp_state.specs.Known.{row_for, row_in}
 use Rattle.pp_state.specs.Pins.{busy_rows, forgotten_row, idle_row, with_room}
 use Rattle.pp_state.specs.declared.state.State.{State as Turn}
-use Rattle.pp_steps_law.proofs.Charged.{same_entry}
+use Rattle.pp_states_law.proofs.Charged.{same_entry}
 use Rattle.pp_text.specs.Fields.{Field}
 use Rattle.pp_valid.specs.declared.version.Version.{Version}
 use Rattle.pp_joints_law.proofs.ClearedLaw.{facts_of}
 use Rattle.pp_joints_law.proofs.NotedHeads.{useless_clears}
-use Rattle.pp_joints_law.specs.HeadsNote.{LeavesAsTheLaw, OwnHeadsForget}
+use Rattle.pp_joints_law.proofs.NotedParts.{elsewhere_clears, filling_is}
+use Rattle.pp_joints_law.specs.HeadsNote.{FillingHeadsForget, LeavesAsTheLaw, OwnHeadsForget}
 
 -- ---- of the law: nothing leaves memory but for room
 
@@ -118,6 +119,21 @@ other_left e head rule s = by (law_widened e head)
     by : (b : Bool) → Left s (elim b as (λ t. State) [ true ↦ tell e TooWide (use_body e Dropping cleared) | false ↦ relay_head e head rule cleared ])
     by true = left_then s cleared (tell e TooWide (use_body e Dropping cleared)) (cleared_by_left head e s) (left_then cleared (use_body e Dropping cleared) (tell e TooWide (use_body e Dropping cleared)) (body_left e Dropping cleared) (told_left e TooWide (use_body e Dropping cleared)))
     by false = left_then s cleared (relay_head e head rule cleared) (cleared_by_left head e s) (relayed_left e head rule cleared)
+
+other_part_left : (e : Exchange) (head : Response) (rule : BodyRule) (s : State) → Left s (law_other_part e head rule s)
+unfolding law_other_part
+other_part_left e head rule s = by (law_private head) (law_clears head)
+  where
+    cleared : State
+    cleared = law_cleared_by head e s
+
+    by : (a b : Bool) → Left s (elim a as (λ t. State) [ true ↦ law_not_shared e s | false ↦ elim b as (λ t. State) [ true ↦ relay_head e head rule cleared | false ↦ useless e s ] ])
+    by true b = unshared_left e s
+    by false true = left_then s cleared (relay_head e head rule cleared) (cleared_by_left head e s) (relayed_left e head rule cleared)
+    by false false = useless_left e s
+
+elsewhere_left : (e : Exchange) (s : State) → Left s (count_elsewhere e s)
+elsewhere_left e s = let facts = facts_of (elsewhere_clears e s) in record { forgotten = facts.forgotten_is; evicting = facts.evicting_is }
 
 modified_left : (e : Exchange) (head : Response) (s : State) → Left s (law_not_modified e head s)
 unfolding law_not_modified unchanged
@@ -276,6 +292,12 @@ module _ (number : ℕ → ℕ) (name : Bytes) (l : Leaving) (peers : List Peer)
   row_is : row_for x.exchange.number old ≡ option_map (λ (i : Instance). (id_of i, i.version)) (row_of key old.cache.instances)
   row_is = ap (λ (o : Option Bytes). option_and_then (λ k. row_in k old.cache) o) key_there
 
+  settled_forgets : (v : Version) → LeavesAsTheLaw (roomed (Some v) x.exchange.number t) (settle e head v s)
+  settled_forgets v =
+      subst (λ (u : State). LeavesAsTheLaw (roomed (Some v) x.exchange.number t) u) (sym (settle_is v))
+      (subst (λ (o : Option (ObjectId × Version)). LeavesAsTheLaw (with_room_for o t) (by_known v (known_version s key))) (sym row_is)
+      (settles v (row_of key old.cache.instances) (row s key) refl refl (rows_of number old.cache s at.shows.shows.table.table key)))
+
   abbrev own_by : Option Version → State
   own_by o = elim o as (λ u. State) [ Some v ↦ settle e head v s | None ↦ elim (head.status == 304) as (λ u. State) [ true ↦ law_not_modified e head s | false ↦ law_other_head e head rule s ] ]
 
@@ -289,15 +311,42 @@ module _ (number : ℕ → ℕ) (name : Bytes) (l : Leaving) (peers : List Peer)
       by : (b : Bool) → Left s (elim b as (λ u. State) [ true ↦ law_not_modified e head s | false ↦ law_other_head e head rule s ])
       by true = modified_left e head s
       by false = other_left e head rule s
-  takes (Some v) =
-      subst (λ (u : State). LeavesAsTheLaw (roomed (Some v) x.exchange.number t) u) (sym (settle_is v))
-      (subst (λ (o : Option (ObjectId × Version)). LeavesAsTheLaw (with_room_for o t) (by_known v (known_version s key))) (sym row_is)
-      (settles v (row_of key old.cache.instances) (row s key) refl refl (rows_of number old.cache s at.shows.shows.table.table key)))
+  takes (Some v) = settled_forgets v
 
   own_forgets : LeavesAsTheLaw (roomed (version_in x.errand head) x.exchange.number t) (own_head e head rule s)
   own_forgets =
       subst (λ (u : State). LeavesAsTheLaw (roomed (version_in x.errand head) x.exchange.number t) u) (sym own_is)
       (subst (λ (o : Option Version). LeavesAsTheLaw (roomed o x.exchange.number t) (own_by (law_version_in e head))) (sym (versions number x e head shown)) (takes (law_version_in e head)))
 
+  -- ---- to the ask of a follower
+
+  abbrev part_by : Option Version → State
+  part_by o = elim o as (λ u. State) [ Some v ↦ settle e head v s | None ↦ elim (head.status == 304) as (λ u. State) [ true ↦ law_not_modified e head s | false ↦ law_other_part e head rule s ] ]
+
+  part_is : part_head e head rule s ≡ part_by (law_version_in e head)
+  unfolding part_head
+  part_is = refl
+
+  takes_part : (o : Option Version) → LeavesAsTheLaw (roomed o x.exchange.number t) (part_by o)
+  takes_part None = stays (part_by None) (by (head.status == 304))
+    where
+      by : (b : Bool) → Left s (elim b as (λ u. State) [ true ↦ law_not_modified e head s | false ↦ law_other_part e head rule s ])
+      by true = modified_left e head s
+      by false = other_part_left e head rule s
+  takes_part (Some v) = settled_forgets v
+
+  part_forgets : LeavesAsTheLaw (roomed (version_in x.errand head) x.exchange.number t) (part_head e head rule s)
+  part_forgets =
+      subst (λ (u : State). LeavesAsTheLaw (roomed (version_in x.errand head) x.exchange.number t) u) (sym part_is)
+      (subst (λ (o : Option Version). LeavesAsTheLaw (roomed o x.exchange.number t) (part_by (law_version_in e head))) (sym (versions number x e head shown)) (takes_part (law_version_in e head)))
+
+  filling_forgets : LeavesAsTheLaw (roomed (version_in x.errand head) x.exchange.number t) (filling_head e head rule s)
+  filling_forgets =
+      subst (λ (u : State). LeavesAsTheLaw (roomed (version_in x.errand head) x.exchange.number t) u) (sym (filling_is e head rule s))
+      (leaves_as (roomed (version_in x.errand head) x.exchange.number t) (part_head e head rule s) (count_elsewhere e (part_head e head rule s)) part_forgets (elsewhere_left e (part_head e head rule s)))
+
 pub own_heads_forget : OwnHeadsForget
 own_heads_forget number name l peers t s n x e head rule at room leaves = own_forgets number name l peers t s n x e head rule at room leaves
+
+pub filling_heads_forget : FillingHeadsForget
+filling_heads_forget number name l peers t s n x e head rule at room leaves = filling_forgets number name l peers t s n x e head rule at room leaves

@@ -5,7 +5,7 @@ use Rattle.std.specs.List.{All, list_all, list_any}
 use Rattle.std.specs.Prelude.{count_by, slice_get}
 use Rattle.pp_cache.specs.Memory.{Memory}
 use Rattle.pp_cache_law.specs.Outdated.{AreNoted}
-use Rattle.pp_closings_law.specs.Log.{AreLinked}
+use Rattle.pp_turns_law.specs.Log.{AreLinked}
 use Rattle.pp_conf.specs.Conf.{Settings}
 use Rattle.pp_conf.specs.Shown.{shown_conf}
 use Rattle.pp_conf.specs.declared.conf.Conf.{Conf}

@@ -29,19 +29,61 @@ and_false : (b : Bool) → (b && false) ≡ false
 and_false true = refl
 and_false false = refl
 
--- ---- a run has 64 chunks at most
+-- ---- what the defaults have, and each assignment leaves, all settings have that words and text give
 
-few_in : (padded : Bool) (o : Option ℕ) → unwrap_or (cond padded None (option_and_then (λ n. cond (nat_le 1 n && nat_le n 64) (Some n) None) o)) 0 ≤ 64
-few_in true o = omega arith
-few_in false None = omega arith
-few_in false (Some n) = by (nat_le 1 n) (nat_le n 64) refl
+not_refused : (o : Option Setting) (r : Result Settings Setting) (c : Settings) → or_refused o r ≡ Ok c → r ≡ Ok c
+not_refused None r c is = is
+not_refused (Some s) r c is = absurd (cc is)
+
+module _ (P : Settings → Type 0) (first : P defaults) (one : (c : Settings) (s : Setting) (text : List ℕ) → P c → P (with_value c s text)) where
+  assigned_so : (c : Settings) (all : List Assignment) → P c → P (assigned c all)
+  assigned_so c [] so = so
+  assigned_so c (a ∷ all) so = assigned_so (with_value c a.0 a.1) all (one c a.0 a.1 so)
+
+  so_of : (all : List Assignment) (c : Settings) → settings_of all ≡ Ok c → P c
+  so_of all c is =
+      let fits : fitting (assigned defaults all) ≡ Ok c = not_refused (first_refused all) (fitting (assigned defaults all)) c is in
+      let whole : Ok (assigned defaults all) ≡ Ok c = not_refused (misfit (assigned defaults all)) (Ok (assigned defaults all)) c fits in
+      let same : assigned defaults all ≡ c = cc whole in
+      subst P same (assigned_so defaults all first)
+
+  told_so : (words : List Bytes) (text : Option Bytes) (c : Settings) → reading_of words text ≡ Ok (Serves c) → P c
+  told_so words text c is = read (has_reading words) is
+    where
+      set : (r : Result Settings Setting) → or_out_of_range r ≡ Ok (Serves c) → r ≡ Ok c
+      set (Ok d) same = let e : d ≡ c = cc same in ap (λ (x : Settings). Ok x) e
+      set (Err s) same = absurd (cc same)
+
+      parsed : (r : Result (List Assignment) ℕ) → with_words words r ≡ Ok (Serves c) → P c
+      parsed (Ok by_text) same = so_of (by_text ++ word_assignments words) c (set (settings_of (by_text ++ word_assignments words)) same)
+      parsed (Err line) same = absurd (cc same)
+
+      served : (long : Bool) → cond long (Err TooLong) (with_words words (text_assignments text)) ≡ Ok (Serves c) → P c
+      served true same = absurd (cc same)
+      served false same = parsed (text_assignments text) same
+
+      told : (seed : Option Bytes) → told_by words text seed ≡ Ok (Serves c) → P c
+      told None same = served (is_too_long text) same
+      told (Some seed) same = absurd (cc same)
+
+      read : (reads : Bool) → cond reads (told_by words text (seed_of words)) (Err NoReading) ≡ Ok (Serves c) → P c
+      read true same = told (seed_of words) same
+      read false same = absurd (cc same)
+
+-- a number is not above its range
+few_in : (least most : ℕ) (padded : Bool) (o : Option ℕ) → unwrap_or (cond padded None (option_and_then (λ n. cond (nat_le least n && nat_le n most) (Some n) None) o)) 0 ≤ most
+few_in least most true o = omega arith
+few_in least most false None = omega arith
+few_in least most false (Some n) = by (nat_le least n) (nat_le n most) refl
   where
-    by : (least most : Bool) → nat_le n 64 ≡ most → unwrap_or (cond (least && most) (Some n) None) 0 ≤ 64
+    by : (low high : Bool) → nat_le n most ≡ high → unwrap_or (cond (low && high) (Some n) None) 0 ≤ most
     by true true is = grind (arith, nat_tests, is)
     by true false is = omega arith
-    by false most is = omega arith
+    by false high is = omega arith
 
+-- a run has 64 chunks at most
 few_with : (c : Settings) (s : Setting) (text : List ℕ) → c.disk_run ≤ 64 → (with_value c s text).disk_run ≤ 64
+few_with c DiskRun text few = few_in 1 64 (is_padded text) (number_of text)
 few_with c ProxyPort text few = few
 few_with c ProxyAddress text few = few
 few_with c AllowedClients text few = few
@@ -50,50 +92,34 @@ few_with c DiskCacheRoot text few = few
 few_with c ChunkLowMark text few = few
 few_with c ChunkHighMark text few = few
 few_with c ChunkCriticalMark text few = few
-few_with c DiskRun text few = few_in (is_padded text) (number_of text)
 few_with c MaxTurns text few = few
 few_with c ShareFetches text few = few
 few_with c PipelineAsks text few = few
 few_with c HostConnections text few = few
 few_with c AccessLog text few = few
 
-few_assigned : (c : Settings) (all : List Assignment) → c.disk_run ≤ 64 → (assigned c all).disk_run ≤ 64
-few_assigned c [] few = few
-few_assigned c (a ∷ all) few = few_assigned (with_value c a.0 a.1) all (few_with c a.0 a.1 few)
-
-not_refused : (o : Option Setting) (r : Result Settings Setting) (c : Settings) → or_refused o r ≡ Ok c → r ≡ Ok c
-not_refused None r c is = is
-not_refused (Some s) r c is = absurd (cc is)
-
-few_of : (all : List Assignment) (c : Settings) → settings_of all ≡ Ok c → c.disk_run ≤ 64
-few_of all c is =
-    let fits : fitting (assigned defaults all) ≡ Ok c = not_refused (first_refused all) (fitting (assigned defaults all)) c is in
-    let whole : Ok (assigned defaults all) ≡ Ok c = not_refused (misfit (assigned defaults all)) (Ok (assigned defaults all)) c fits in
-    let same : assigned defaults all ≡ c = cc whole in
-    subst (λ (d : Settings). d.disk_run ≤ 64) same (few_assigned defaults all (omega arith))
-
 pub few_told : (words : List Bytes) (text : Option Bytes) (c : Settings) → reading_of words text ≡ Ok (Serves c) → c.disk_run ≤ 64
-few_told words text c is = read (has_reading words) is
-  where
-    set : (r : Result Settings Setting) → or_out_of_range r ≡ Ok (Serves c) → r ≡ Ok c
-    set (Ok d) same = let e : d ≡ c = cc same in ap (λ (x : Settings). Ok x) e
-    set (Err s) same = absurd (cc same)
+few_told words text c is = told_so (λ (d : Settings). d.disk_run ≤ 64) (omega arith) few_with words text c is
 
-    parsed : (r : Result (List Assignment) ℕ) → with_words words r ≡ Ok (Serves c) → c.disk_run ≤ 64
-    parsed (Ok by_text) same = few_of (by_text ++ word_assignments words) c (set (settings_of (by_text ++ word_assignments words)) same)
-    parsed (Err line) same = absurd (cc same)
+-- the critical mark is 65,536 at most; `reading_marked` of `pp_laws_pool` has it that it is 512 at least
+marked_with : (c : Settings) (s : Setting) (text : List ℕ) → c.critical ≤ 65536 → (with_value c s text).critical ≤ 65536
+marked_with c ChunkCriticalMark text most = few_in 512 65536 (is_padded text) (number_of text)
+marked_with c ProxyPort text most = most
+marked_with c ProxyAddress text most = most
+marked_with c AllowedClients text most = most
+marked_with c ProxyName text most = most
+marked_with c DiskCacheRoot text most = most
+marked_with c ChunkLowMark text most = most
+marked_with c ChunkHighMark text most = most
+marked_with c DiskRun text most = most
+marked_with c MaxTurns text most = most
+marked_with c ShareFetches text most = most
+marked_with c PipelineAsks text most = most
+marked_with c HostConnections text most = most
+marked_with c AccessLog text most = most
 
-    served : (long : Bool) → cond long (Err TooLong) (with_words words (text_assignments text)) ≡ Ok (Serves c) → c.disk_run ≤ 64
-    served true same = absurd (cc same)
-    served false same = parsed (text_assignments text) same
-
-    told : (seed : Option Bytes) → told_by words text seed ≡ Ok (Serves c) → c.disk_run ≤ 64
-    told None same = served (is_too_long text) same
-    told (Some seed) same = absurd (cc same)
-
-    read : (reads : Bool) → cond reads (told_by words text (seed_of words)) (Err NoReading) ≡ Ok (Serves c) → c.disk_run ≤ 64
-    read true same = told (seed_of words) same
-    read false same = absurd (cc same)
+pub marked_told : (words : List Bytes) (text : Option Bytes) (c : Settings) → reading_of words text ≡ Ok (Serves c) → c.critical ≤ 65536
+marked_told words text c is = told_so (λ (d : Settings). d.critical ≤ 65536) (omega arith) marked_with words text c is
 
 pub has_read : (words : List Bytes) (text : Option Bytes) (c : Settings) → reading_of words text ≡ Ok (Serves c) → has_reading words ≡ true
 has_read words text c is = by (has_reading words) is

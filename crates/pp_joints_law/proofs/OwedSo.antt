@@ -1,6 +1,6 @@
 -- Where a read or a write is owed what is carried stands.
 use Rattle.std.proofs.Common.{◌≡◌, refl, sym, ◌∙◌, [], ◌∷◌, List, ℕ}
-use Rattle.pp_decides_law.proofs.Twice.{regains_once}
+use Rattle.pp_turns_law.proofs.Twice.{regains_once}
 use Rattle.pp_desk.specs.declared.desk.Desk.{Desk}
 use Rattle.pp_events_law.specs.Woken.{IsOwed}
 use Rattle.pp_joints_law.proofs.CarriedOn.{StandsTo, awaited_from, still_on}

@@ -1,7 +1,7 @@
 -- Behind the wait what is carried stands.
 use Rattle.std.proofs.Common.{◌≡◌, ◌≤◌, ◌+◌, refl, sym, subst, ap, ◌∙◌, ℕ, length, List}
 use Rattle.std.specs.Prelude.{vec_capacity}
-use Rattle.pp_closings_law.specs.Log.{AreLinked}
+use Rattle.pp_turns_law.specs.Log.{AreLinked}
 use Rattle.pp_desk.specs.declared.desk.Desk.{Desk}
 use Rattle.pp_joints_law.proofs.Asks.{Can, rested_can}
 use Rattle.pp_joints_law.proofs.Same.{IsSameDisk, disk_as, set_from}

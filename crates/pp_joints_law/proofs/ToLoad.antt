@@ -1,6 +1,6 @@
 -- What the read of a chunk rests on before a write stands where the write is owed.
 use Rattle.std.proofs.Common.{◌≡◌, refl, ap₂, ◌∙◌, ℕ, not, ◌&&◌, is_some, List, Option}
-use Rattle.pp_decides_law.proofs.Twice.{regains_once}
+use Rattle.pp_turns_law.proofs.Twice.{regains_once}
 use Rattle.pp_joints_law.specs.Loading.{CarriedOnesAreOnDisk, NoneLeavesAtWaits, OwedOnesAreFirst}
 use Rattle.pp_law.specs.After.{event, owing}
 use Rattle.pp_law.specs.Connections.{on_client, on_conn}

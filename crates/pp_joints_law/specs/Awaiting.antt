@@ -2,7 +2,7 @@
 --
 -- Where the premises come from: the log goes on as from the state behind the wait, as WaitsLead of `pp_waits_law` leads there; that no row left
 -- memory for a decision is Ends.`HasEnded` of `pp_rounds_law`, `none`. Memory was refused for no row: in the program a life in which it was goes
--- astray (Astray of `pp_state`), and a turn says so at its end; that no seat has such a row then has no source yet, of each piece.
+-- astray (Astray of `pp_state`), and a turn says so at its end; that no seat has such a row then is carried (`pp_given_law`, `pp_stays_law`).
 use Rattle.std.specs.Prelude.{◌≡◌, ℕ, false, List, slice_get, Some, None}
 use Rattle.pp_desk.specs.declared.desk.Desk.{Desk}
 use Rattle.pp_events_law.specs.Stands.{AreReadyAt, StandsAtEvent}

@@ -4,7 +4,7 @@
 -- Where the premises come from: the log obeys the law up to the wait. Where an event is awaited nothing has to leave memory (Unnoted). How
 -- many connections are open is told by the log: of each state there are no more than clients and connections of the law (`pp_laws_sides`), and at
 -- most 256 of them are clients. As attempts are lost rows are cleared, and their names noted, of which 2,048 may be. There are 1,024 rows; what
--- was noted before left the disk, but for what decisions and rounds cleared: nothing yet says how much that is.
+-- was noted before left the disk, but for what decisions and rounds cleared, which is few (`names_have_room_behind_waits` of `pp_turn_law`).
 use Rattle.std.specs.Prelude.{◌≡◌, ◌<◌, ◌≤◌, ◌+◌, ℕ, List, count_by, length}
 use Rattle.pp_events_law.specs.Silent.{IsSilentlyHandled, stopped}
 use Rattle.pp_events_law.specs.Stands.{StandsAtEvent, come}

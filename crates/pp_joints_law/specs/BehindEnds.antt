@@ -2,7 +2,7 @@
 -- (ours). A clean end may end a body.
 --
 -- Where the premises come from: as in BehindReads. There is room for the data of all that one read may bring from the opening on
--- (Opening.`HasBuffers` of `pp_desk`; no source yet in a turn). OriginReadsLead of `pp_reads_law` leads there, by numbers that may be others.
+-- (Opening.`HasBuffers` of `pp_desk`; at each wait `next_waits_stand_beside` of `pp_turn_law` has it). OriginReadsLead of `pp_reads_law` leads there, by numbers that may be others.
 use Rattle.std.specs.Prelude.{◌≡◌, ◌≤◌, ℕ, List, [], ◌∷◌, length, vec_capacity, Some}
 use Rattle.pp_events_law.specs.Stands.{HasLedBehind, come}
 use Rattle.pp_joints_law.specs.Behind.{CarriesOn, HasFew, MayNote, StandsBefore}

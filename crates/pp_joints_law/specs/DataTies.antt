@@ -2,7 +2,7 @@
 --
 -- Where the premises come from: those of `Data` of `pp_reads_law`. The trigger is one that is set (`IsInForce` of `pp_opening_law`); that eviction has
 -- begun where as many chunks are used as it says is left by each use (`note_use` of `pp_law`), and by all else that a read brings (MarksStay): where
--- the read begins it has no source yet, as in ToLoad of `pp_events_law`.
+-- the read begins it has no source yet (ReadsBegin says where it is not so).
 use Rattle.std.specs.Prelude.{◌≡◌, ◌||◌, ℕ, nat_le, length, List, Some}
 use Rattle.pp_flow_law.specs.Tables.{none_leaves}
 use Rattle.pp_framing.specs.declared.body.BodyRule.{BodyRule}
@@ -20,7 +20,7 @@ use Rattle.pp_reads_law.specs.Data.{MayGo}
 use Rattle.pp_reads_law.specs.Heads.{begun_by}
 use Rattle.pp_state.specs.Ends.{parts}
 use Rattle.pp_state.specs.declared.state.State.{State as Turn}
-use Rattle.pp_steps_law.specs.Steps.{ShowsSteps}
+use Rattle.pp_states_law.specs.Steps.{ShowsSteps}
 
 -- eviction has begun where as many chunks are used as the trigger says
 abbrev pub IsMarked : State → Type 0

@@ -3,7 +3,6 @@
 --
 -- Where the premises come from: what both show before and behind is that of `Wholes` and `Bads` of `pp_reads_law`.
 use Rattle.std.specs.Prelude.{◌<◌, ◌+◌, ℕ, count_by, length}
-use Rattle.pp_cache_law.specs.Outdated.{AreNamed}
 use Rattle.pp_cache_law.specs.Tables.{ShowsTable}
 use Rattle.pp_desk.specs.Closings.{Sides}
 use Rattle.pp_joints_law.specs.HeadsNote.{IsTied}
@@ -16,7 +15,7 @@ use Rattle.pp_origins.specs.Responses.{bad_response, response_whole}
 -- where both show the same rows before and behind, and each of these may be noted
 abbrev pub OfEnds : (ℕ → Sides → Sides) → (Conn → Exchange → Answer → State → State) → Type 0
 OfEnds made law = (number other : ℕ → ℕ) (n : ℕ) (k : Conn) (e : Exchange) (a : Answer) (x y : Both) (s : State) → ShowsTable number x.state.cache s → ShowsTable other y.state.cache (law k e a s) → Makes (made n) x y
-    → length x.state.cache.outdated + count_by is_row x.state.cache.instances < 2048 → AreNamed s.entries → IsTied x.state s → IsTied y.state (law k e a s)
+    → length x.state.cache.outdated + count_by is_row x.state.cache.instances < 2048 → IsTied x.state s → IsTied y.state (law k e a s)
 
 -- a response is whole
 abbrev pub WholesTie : Type 0

@@ -14,7 +14,11 @@ pub mod HeadsNote
 pub mod Keeping
 pub mod Leaving
 pub mod Loading
+pub mod MomentsNote
 pub mod Opened
+pub mod ReadsBegin
+pub mod ReadsNoteAll
+pub mod ReadsNoteFew
 pub mod Serving
 pub mod Settling
 pub mod Unnoted

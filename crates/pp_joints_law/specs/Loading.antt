@@ -1,7 +1,7 @@
 -- What the read of a chunk rests on before a write (ours): nothing has to leave memory where a write is owed, and the disk is at rest.
 --
--- Where the premises come from: `rest_with` of pp_law leaves nothing to leave memory. A row and its entry are of one version (`pp_laws_versions`); that
--- of a chunk that is kept all is in memory or nothing has no source yet (ToLoad of `pp_events_law`).
+-- Where the premises come from: `rest_with` of pp_law leaves nothing to leave memory. A row and its entry are of one version, and of a
+-- chunk that is kept all is in memory or nothing (`pp_laws_versions`, with the bounds of the cache: WholeChunks, in the proofs of `pp_turn_law`).
 use Rattle.std.specs.Prelude.{◌≡◌, ℕ, false, List, []}
 use Rattle.pp_events_law.specs.Losses.{IsFirstOwed}
 use Rattle.pp_events_law.specs.ToLoad.{AreWhole, HaveOneVersion, StandsOnDisk}

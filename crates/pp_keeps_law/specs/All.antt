@@ -28,7 +28,7 @@ AreAmong ids p shelf = (id : ObjectId) (i : Instance) → instance_of id p.cache
 pub record HasGrown (x : Kept) : Type 0 where
   -- `grown_by` notes no more
   pub few : length x.state.cache.grown ≤ 16
-  -- what was whole before this turn was sealed in the turn in which it came; no source yet
+  -- what was whole before this turn was sealed in the turn in which it came (`what_grew_is_noted` of `pp_grown_law`)
   pub all : AreAmong x.state.cache.grown x.state x.outside.shelf
 
 -- nothing came into memory or left it

@@ -40,13 +40,13 @@ pub record StandsToKeep (number : ℕ → ℕ) (p : Turn) (shelf : KeptMap) (s :
   pub names : HasOpenNames s
   -- `clear` displaces those alone that have one, and `note_gone` takes it out with it: no source yet
   pub displaced : DisplacedOnesAreThere s
-  -- row_at gives no other, of a folder; no source yet
+  -- row_at gives no other, of a folder (OpenedRowsAreShort of `pp_joints_law`)
   pub short : All IsShort shelf.rows
   -- the flag of both is cleared by a tick
   pub lost : p.has_lost_draft ≡ s.has_lost_draft
   -- RowsStandAlone of pp_shelf_law
   pub alone : HasOneRow s
-  -- KeptAreKept and RefreshedAreKept of pp_cache_law, step by step; no source yet
+  -- of each row that a lawful log leads to (`pp_laws_fields`)
   pub fields : (x : Instance) → IsIn x s.instances → AreKept x.fields x.times
   -- ShowsTurn of pp_turns_law
   pub clock : p.now ≡ s.clock

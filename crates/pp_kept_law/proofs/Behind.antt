@@ -15,7 +15,7 @@ use Rattle.pp_peers.specs.declared.peers.Peer.{Peer}
 use Rattle.pp_state.specs.Ends.{parts}
 use Rattle.pp_state.specs.declared.state.State.{State as Turn}
 use Rattle.pp_states_law.proofs.Asked.{all_as, frames, itself}
-use Rattle.pp_steps_law.specs.Told.{AreTold, EachIsTold, IsTold, IsToldBy}
+use Rattle.pp_states_law.specs.Told.{AreTold, EachIsTold, IsTold, IsToldBy}
 use Rattle.pp_store.specs.Kept.{KeptMap}
 use Rattle.pp_turns_law.specs.Turns.{ShowsTurn}
 use Rattle.pp_kept_law.specs.Turns.{IsBeside, TurnsAreShown}

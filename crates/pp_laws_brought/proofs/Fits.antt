@@ -1,5 +1,5 @@
 -- What a response may bring fits what is to come of it, from its head on.
-use Rattle.std.proofs.Common.{◌≡◌, refl, ℕ, ◌+◌, ◌-◌, ◌≤◌, ◌^◌, nat_le, Bool, true, false, ◌&&◌, List, [], ◌++◌, drop, length, Option, Some, None, Ok, option_and_then, if◌then◌else◌, sym, subst, append_assoc, length-drop, le_trans, zero-le, arith}
+use Rattle.std.proofs.Common.{◌≡◌, refl, ℕ, ◌+◌, ◌-◌, ◌≤◌, ◌^◌, nat_le, Bool, true, false, ◌&&◌, List, [], ◌++◌, drop, length, Option, Some, None, Ok, option_and_then, if◌then◌else◌, sym, subst, ◌∙◌, append_assoc, length-drop, le_trans, zero-le, arith}
 use Rattle.std.proofs.lemmas.Bool.Decides.{nat_tests}
 use Rattle.pp_framing.specs.Framing.{rule_of}
 use Rattle.pp_framing.specs.Rules.{body_of}
@@ -12,6 +12,7 @@ use Rattle.pp_valid.specs.TagStates.{tag_of}
 use Rattle.pp_valid.specs.Versions.{can_keep, can_share, is_telling, strong_part, total_of, version_of, version_with}
 use Rattle.pp_valid.specs.declared.version.Version.{Version}
 use Rattle.pp_law.specs.Lists.{Bytes}
+use Rattle.pp_law.specs.OwnHeads.{end_in, range_in}
 use Rattle.pp_law.specs.Responses.{answer_with, asks_head, payload_of}
 use Rattle.pp_law.specs.Stages.{is_through}
 use Rattle.pp_law.specs.State.{Answer, Exchange}
@@ -50,6 +51,9 @@ short_made fields status only v is = by_tag (strong_part (tag_of fields)) is
 no_less : (m n k : ℕ) → m ≤ n → m ≤ n + k
 no_less m n k le = omega arith
 
+some_in : {v u : Version} → Some v ≡ Some u → v ≡ u
+some_in both = cc both
+
 pub starts_of : (e : Exchange) (head : Response) (rule : BodyRule) → rule_of (asks_head e) head.status head.fields ≡ Ok rule → is_through e ≡ false → Starts e head (answer_with e head rule)
 starts_of e head rule found own = record {
   spans = λ v is.
@@ -57,10 +61,12 @@ starts_of e head rule found own = record {
       record {
         span = record { order = w.order; short = le_trans w.ends (short_made head.fields head.status (accepts_only_identity e.head.fields) v is) };
         room = λ more. no_less _ _ (length (payload_of (answer_with e head rule))) (bodies_fill e head v rule more own is found);
+        ends = λ u told. let same_version : v ≡ u = some_in (sym is ∙ told) in subst (λ (x : Version). end_in (range_in head) v.length ≤ x.length) same_version w.ends;
       };
   nothing = λ is. record {
     span = record { order = zero-le; short = zero-le };
     room = λ more. subst (λ (r : BodyRule). 0 + length (body_of r more).payload ≤ 0 + length (body_of r []).payload) (sym (rule_at_304 (asks_head e) head rule found is)) zero-le;
+    ends = λ u told. zero-le;
   };
 }
 
@@ -91,4 +97,5 @@ fits_behind a next to bytes f = record {
   room = λ more.
       let far : next + length (body_of a.rule ((a.raw ++ bytes) ++ more)).payload ≤ to + length (payload_of a) = subst (λ (raw : Bytes). next + length (body_of a.rule raw).payload ≤ to + length (payload_of a)) (sym (append_assoc a.raw bytes more)) (f.room (bytes ++ more)) in
       room_behind next to (length (payload_of a)) (length (body_of a.rule (a.raw ++ bytes)).payload) (length (added a bytes)) (length (body_of a.rule ((a.raw ++ bytes) ++ more)).payload) (added_long a bytes) (payload-grows a.rule a.raw bytes) far;
+  ends = f.ends;
 }

@@ -11,7 +11,7 @@ use Rattle.pp_laws.proofs.Sound.{Since, Sound}
 use Rattle.pp_laws_pool.proofs.Along.{Steps, along}
 use Rattle.pp_laws_turn.proofs.Lifts.{obeying}
 use Rattle.pp_obeys.specs.Obeys.{Obeys}
-use Rattle.pp_laws_brought.specs.Brought.{BoundsAreInOrder, DataFit}
+use Rattle.pp_laws_brought.specs.Brought.{BoundsAreInOrder, DataFit, DataStayWithin}
 use Rattle.pp_laws_brought.proofs.Fits.{added_fits}
 use Rattle.pp_laws_brought.proofs.Happenings.{changed-keeps}
 use Rattle.pp_laws_brought.proofs.Turns.{next-keeps, next-sound}
@@ -48,3 +48,6 @@ bounds_in_order terms s log obeys e b i bound = let w = (facts_of (brought_on te
 
 pub data_fit : DataFit
 data_fit terms s log obeys k e a b i j l is bound bytes = added_fits a b.next b.to bytes (lines_of s.conns s.exchanges (facts_of (brought_on terms s log obeys)) k e a b i j l is bound)
+
+pub data_stay : DataStayWithin
+data_stay terms s log obeys k e a b v i j l is bound told = (lines_of s.conns s.exchanges (facts_of (brought_on terms s log obeys)) k e a b i j l is bound).ends v told

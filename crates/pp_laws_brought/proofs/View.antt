@@ -1,6 +1,7 @@
 -- What is kept of the exchanges whose bodies belong to an instance, and of the answers that are under way.
 use Rattle.std.proofs.Common.{◌≡◌, ◌⊎◌, refl, ℕ, ◌+◌, ◌≤◌, ◌^◌, Bool, true, List, [], ◌∷◌, ◌++◌, map, filter, length, Option, Some, None, inl, inr, sym, subst, ap, ◌∙◌}
 use Rattle.pp_framing.specs.Rules.{body_of}
+use Rattle.pp_valid.specs.declared.version.Version.{Version}
 use Rattle.pp_law.specs.Lists.{Bytes}
 use Rattle.pp_law.specs.Responses.{payload_of}
 use Rattle.pp_law.specs.Stages.{bound_of}
@@ -30,10 +31,11 @@ pub record IsSpan (next to : ℕ) : Type 0 where
   pub order : next ≤ to
   pub short : to ≤ 2 ^ 30
 
--- whatever follows of the answer, no more data come than are still to come
+-- whatever follows of the answer, no more data come than are still to come; and none behind the end of its version
 pub record Fits (a : Answer) (next to : ℕ) : Type 0 where
   pub span : IsSpan next to
   pub room : (more : Bytes) → next + length (body_of a.rule (a.raw ++ more)).payload ≤ to + length (payload_of a)
+  pub ends : (v : Version) → a.version ≡ Some v → to ≤ v.length
 
 pub record Facts (but : Apart) (conns : List Conn) (exchanges : List Exchange) : Type 0 where
   -- of the line of a connection that is answered

@@ -7,6 +7,7 @@ use Rattle.pp_law.specs.Stages.{bound_of}
 use Rattle.pp_law.specs.State.{State, Term, Answer, Bound, Conn, Exchange}
 use Rattle.pp_laws.specs.Runs.{IsIn}
 use Rattle.pp_obeys.specs.Obeys.{Obeys}
+use Rattle.pp_valid.specs.declared.version.Version.{Version}
 use Rattle.pp_world.specs.Log.{Log}
 
 -- its next offset is at its end at the latest; ours: no version has more than 2^30 bytes, and the pool numbers each of its chunks
@@ -24,3 +25,7 @@ BoundsAreInOrder = (terms : List Term) (s : State) (log : Log) → Obeys terms s
 abbrev pub DataFit : Type 0
 DataFit = (terms : List Term) (s : State) (log : Log) → Obeys terms s log → (k : Conn) (e : Exchange) (a : Answer) (b : Bound) → IsIn k s.conns → IsIn e s.exchanges → IsIn e.number k.line → k.answer ≡ Some a → bound_of e ≡ Some b
     → (bytes : Bytes) → b.next + length (drop (length (payload_of a)) (body_of a.rule (a.raw ++ bytes)).payload) ≤ b.to
+
+-- and none behind the end of the version that the answer is of
+abbrev pub DataStayWithin : Type 0
+DataStayWithin = (terms : List Term) (s : State) (log : Log) → Obeys terms s log → (k : Conn) (e : Exchange) (a : Answer) (b : Bound) (v : Version) → IsIn k s.conns → IsIn e s.exchanges → IsIn e.number k.line → k.answer ≡ Some a → bound_of e ≡ Some b → a.version ≡ Some v → b.to ≤ v.length

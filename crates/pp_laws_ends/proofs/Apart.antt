@@ -54,7 +54,7 @@ use Rattle.pp_laws.proofs.Tops.{come_to-top, placing-top}
 use Rattle.pp_laws_pool.proofs.Along.{Steps, along}
 use Rattle.pp_obeys.specs.Obeys.{Obeys}
 use Rattle.pp_obeys.proofs.Obeying.{log-good}
-use Rattle.pp_laws_turn.proofs.View.{View, Walk, Begins, Follows, Holds, IsBodied, SameAsk, facts_of, holds, is_late, view}
+use Rattle.pp_laws_turn.proofs.View.{View, Walk, Begins, Follows, Holds, IsHeard, SameAsk, facts_of, holds, is_late, view}
 use Rattle.pp_laws_turn.proofs.Cases.{by_aim_of, by_outcome, by_pause, each_of, each_so, when}
 use Rattle.pp_laws_turn.proofs.Clients.{ask-keeps, begin_replies-keeps, close_client-keeps, decided-keeps, end_replies-keeps, fill-keeps, give_up_asks-keeps, hang_up-keeps, hear-keeps, pour-keeps, regained-keeps, use_said-keeps}
 use Rattle.pp_laws_turn.proofs.Closings.{close_conn-keeps}
@@ -347,7 +347,7 @@ gone-apart is_clean n s h = each_of (conn s n) h (λ k. end_replies-keeps apart_
 
 -- ---- notes
 
-take_decision-apart : (n : ℕ) (d : Decision) (s : State) → is_late s.phase ≡ true → ((c : Client) → client s n ≡ Some c → c.is_closing ≡ false) → ((c : Client) → client s n ≡ Some c → IsBodied c) → Holds Apart s → Holds Apart (take_decision n d s)
+take_decision-apart : (n : ℕ) (d : Decision) (s : State) → is_late s.phase ≡ true → ((c : Client) → client s n ≡ Some c → c.is_closing ≡ false) → ((c : Client) → client s n ≡ Some c → IsHeard c) → Holds Apart s → Holds Apart (take_decision n d s)
 unfolding take_decision
 take_decision-apart n d s late going bodied h =
     each_so (client s n) (λ none. h)

@@ -12,13 +12,14 @@ use Rattle.pp_law.specs.State.{State, Answer, Client, Conn, Exchange}
 use Rattle.pp_law.specs.Table.{clear, enter, swept}
 use Rattle.pp_law.specs.Turn.{tick}
 use Rattle.pp_law.specs.Unseen.{drop_unseen}
+use Rattle.pp_laws.specs.Runs.{IsIn}
 use Rattle.pp_laws_turn.proofs.View.{Holds, IsNew, Takes, facts_of, holds, is_late}
-use Rattle.pp_laws_turn.proofs.Clients.{IsThere, begin_exchange-keeps, begin_replies-keeps, close_client-keeps, decided-keeps, end_replies-keeps, enter_row-keeps, fill-keeps, forsake-keeps, give_up_asks-keeps, leave-keeps, regained-keeps}
+use Rattle.pp_laws_turn.proofs.Clients.{IsThere, begin_exchange-keeps, begin_replies-keeps, close_client-keeps, decided-named, end_replies-keeps, enter_row-named, fill-keeps, forsake-keeps, give_up_asks-keeps, leave-keeps, regained-keeps}
 use Rattle.pp_laws_turn.proofs.Closings.{close_conn-keeps}
 use Rattle.pp_laws_turn.proofs.Exchanges.{end_exchange-keeps, fail-keeps, lose_attempt-keeps}
-use Rattle.pp_laws_turn.proofs.Kept.{Turn, turn_begins, turn_follows, turn_lined, turn_places, turn_walk}
+use Rattle.pp_laws_turn.proofs.Kept.{IsShort, Turn, named_short, turn_begins, turn_follows, turn_lined, turn_places, turn_walk}
 use Rattle.pp_laws_turn.proofs.Pieces.{bad_response-keeps, ended-keeps, finish-keeps}
-use Rattle.pp_laws_turn.proofs.Rows.{clear-keeps, enter-keeps, swept-keeps}
+use Rattle.pp_laws_turn.proofs.Rows.{clear-keeps, enter-named, swept-keeps}
 use Rattle.pp_laws_turn.proofs.Steps.{drop_unseen-keeps, placing-keeps, tick-keeps}
 
 -- ---- replies and closings
@@ -91,13 +92,13 @@ conn_ends is_clean k s h = ended-keeps turn_walk is_clean k s h
 
 -- where it is taken for a client that goes on, in a phase in which decisions are
 pub is_decided : (c : Client) (d : Decision) (s : State) → IsThere c s.clients → is_late s.phase ≡ true → Holds Turn s → Holds Turn (decided c d s)
-is_decided c d s there late h = decided-keeps turn_walk turn_begins turn_follows c d s ((facts_of h).bodied c there.there) there late h
+is_decided c d s there late h = decided-named turn_walk turn_begins turn_follows c d s (named_short c ((facts_of h).bodied c there.there)) ((facts_of h).bodied c there.there) there late h
 
-pub row_enters_for : (c : Client) (d : Decision) (s : State) → Holds Turn s → Holds Turn (enter_row c d s)
-row_enters_for c d s h = enter_row-keeps turn_walk.rows c d s h
+pub row_enters_for : (c : Client) (d : Decision) (s : State) → IsIn c s.clients → Holds Turn s → Holds Turn (enter_row c d s)
+row_enters_for c d s i h = enter_row-named turn_walk.rows c d s (named_short c ((facts_of h).bodied c i)) h
 
-pub row_enters : (key : Bytes) (is_new : Bool) (s : State) → Holds Turn s → Holds Turn (enter key is_new s)
-row_enters key is_new s h = enter-keeps turn_walk.rows key is_new s h
+pub row_enters : (key : Bytes) (is_new : Bool) (s : State) → IsShort key → Holds Turn s → Holds Turn (enter key is_new s)
+row_enters key is_new s short h = enter-named turn_walk.rows key is_new s short h
 
 pub row_is_cleared : (key : Bytes) (s : State) → Holds Turn s → Holds Turn (clear key s)
 row_is_cleared key s h = clear-keeps turn_walk.rows key s h

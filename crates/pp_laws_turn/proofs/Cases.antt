@@ -7,7 +7,7 @@ use Rattle.pp_law.specs.Connections.{Pause, AllPlaced, WaitsDial, WaitsDrop}
 use Rattle.pp_law.specs.Lists.{Bytes}
 use Rattle.pp_law.specs.Requests.{Front, Parsed, NoHeadYet, NoHead as NoFront, IsRequest}
 use Rattle.pp_law.specs.State.{State, Aim, Through, Own, Filling, Exchange, Entry, Todo, Do, Enter, Acknowledge}
-use Rattle.pp_laws_turn.proofs.View.{View, Walk, Holds, holds, facts_of}
+use Rattle.pp_laws_turn.proofs.View.{View, Holds}
 
 pub when : {P : View → Type 0} (t : Bool) {x y : State} → Holds P x → Holds P y → Holds P (elim t as (λ c. State) [ true ↦ x | false ↦ y ])
 when true hx hy = hx

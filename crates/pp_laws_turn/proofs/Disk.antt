@@ -1,5 +1,5 @@
 -- The disk keeps what is said of clients, connections, exchanges and chunks.
-use Rattle.std.proofs.Common.{◌≡◌, ℕ, Bool, true, false, find, Option, Some, None}
+use Rattle.std.proofs.Common.{ℕ, Bool, true, false, find, Option, Some, None}
 use Rattle.pp_world.specs.declared.op.DiskOp.{DiskOp}
 use Rattle.pp_law.specs.Lists.{Bytes}
 use Rattle.pp_law.specs.Opening.{is_opening, lose_in_opening}

@@ -1,5 +1,5 @@
 -- What one read brings, response by response, each phase and each happening keep what is kept of clients, exchanges and rows.
-use Rattle.std.proofs.Common.{◌≡◌, ◌⊎◌, refl, ℕ, zero, suc, ◌+◌, ◌<◌, ◌≤◌, Bool, true, false, not, ◌==◌, ◌&&◌, ◌||◌, List, [], ◌∷◌, ◌++◌, map, filter, find, drop, length, bytes_eq, is_some, Option, Some, None, option_and_then, option_map, Result, Ok, Err, inl, inr, sym, subst, ap, ◌∙◌, arith}
+use Rattle.std.proofs.Common.{◌≡◌, ◌⊎◌, refl, ℕ, zero, suc, ◌+◌, ◌<◌, ◌≤◌, Bool, true, false, not, ◌==◌, ◌&&◌, ◌||◌, List, [], ◌∷◌, ◌++◌, map, filter, drop, length, bytes_eq, is_some, Option, Some, None, option_and_then, option_map, Result, Ok, Err, inl, inr, sym, subst, ap, ◌∙◌, arith}
 use Rattle.std.specs.List.{list_any}
 use Rattle.pp_conf.specs.Conf.{Settings}
 use Rattle.pp_conf.specs.Words.{file_of, reading_of}
@@ -11,7 +11,6 @@ use Rattle.pp_framing.specs.declared.framing.ResponseFault.{ResponseFault}
 use Rattle.pp_head.specs.Read.{Read, Whole, TooLong, Bad as NoHead, More}
 use Rattle.pp_head.specs.Response.{Response, response_at}
 use Rattle.pp_pipe.specs.Front.{is_interim}
-use Rattle.pp_target.specs.Key.{text_of}
 use Rattle.pp_text.specs.Bytes.{is_empty}
 use Rattle.pp_world.specs.Files.{Files}
 use Rattle.pp_world.specs.declared.event.Wants.{Wants}
@@ -27,21 +26,21 @@ use Rattle.pp_law.specs.After.{waits_for_row, new_client, event, opened, new_con
 use Rattle.pp_law.specs.Asking.{asking, is_reading, is_writing, left_in}
 use Rattle.pp_law.specs.Chunks.{note_use}
 use Rattle.pp_law.specs.Closing.{close_client, exchanges_of, leave_one, left_alone}
-use Rattle.pp_law.specs.Connections.{client, conn, each_exchange, end_exchange, exchange, front_of_line, is_client, is_conn, is_exchange, lose_attempt, may_ask_again, on_client, on_conn, on_exchange, close_conn, placing, Pause, AllPlaced, Placement, WaitsDial, WaitsDrop, put_on}
+use Rattle.pp_law.specs.Connections.{client, conn, each_exchange, end_exchange, exchange, front_of_line, is_client, is_conn, is_exchange, may_ask_again, on_client, on_conn, on_exchange, close_conn, placing, Pause, AllPlaced, Placement, WaitsDial, WaitsDrop, put_on}
 use Rattle.pp_law.specs.Deciding.{is_for_memory}
 use Rattle.pp_law.specs.Due.{Due, Decide, CutOff, due_by_stage, due_cut, due_decision, due_of, first_due, next_due}
 use Rattle.pp_law.specs.Leaving.{Leaving, ForAnother, ForMemory, BeforeDecision, before_decision, forgets_next, if_so, is_first, leaving_as, makes_room}
 use Rattle.pp_law.specs.Lists.{Bytes, change, first_some, is_some_with, is_this}
-use Rattle.pp_law.specs.Opening.{terms_behind, are_texts, begun, configured, is_at, is_opening, is_recovered, lose_in_opening, may_fail, names_file, opened_to, permits_configured, permits_listens, permits_rooted, settings_in, stuck, with_settings, woken}
+use Rattle.pp_law.specs.Opening.{terms_behind, are_texts, begun, configured, is_at, is_opening, is_recovered, may_fail, names_file, opened_to, permits_configured, permits_listens, permits_rooted, settings_in, stuck, with_settings, woken}
 use Rattle.pp_law.specs.OwnHeads.{is_wrong_head, key_of, join, join_bound, moved_on, note_own, note_sent}
 use Rattle.pp_law.specs.Passing.{poured}
-use Rattle.pp_law.specs.Permits.{has_conn, has_room_for, is_due_decision, is_new_number, is_owed, is_permitted, is_same_decision, IsPermitted, may_cut, may_dial, may_open, may_take, may_want_memory, permits, permits_broke, permits_dial, permits_taken}
+use Rattle.pp_law.specs.Permits.{has_conn, has_room_for, is_due_decision, is_new_number, is_owed, is_permitted, is_same_decision, IsPermitted, may_cut, may_open, may_take, may_want_memory, permits, permits_broke, permits_dial, permits_taken}
 use Rattle.pp_law.specs.Phases.{phases, in_phase, is_awaiting, is_done, is_done_with, is_free, behind, next, come, come_to, come_to_decide, decides, deciding, due_victim, ending, may_decide, may_in}
-use Rattle.pp_law.specs.Replies.{end_replies, said_by}
+use Rattle.pp_law.specs.Replies.{said_by}
 use Rattle.pp_law.specs.Responses.{bad_head, bad_response, finish, asks_head, answer_with, answered_by, end_if_empty, begin_answer, answer_for, bring_row, head_came, is_readable, Piece, is_early, with_unread, head_piece, deliver, payload_of, body_piece_of, body_piece, next_piece, got}
 use Rattle.pp_law.specs.Stages.{bound_of, reply_of}
 use Rattle.pp_law.specs.State.{State, Term, start, RowRefused, Phase, Before, IsWoken, IsConfigured, IsRooted, IsListed, IsListening, IsStuck, Awaiting, Handling, Evicting, Keeping, Deciding, Following, Connecting, DecidingAgain, Owed, Free, ReadOf, WriteTo, Joining, Answer, Bound, Client, Conn, Exchange, Instance, Reply, Stage, Undecided, Waiting, Passing, Answering}
-use Rattle.pp_law.specs.Table.{follows, forget, idle_row, instance, is_followed, is_row_of, kept_row, row, swept}
+use Rattle.pp_law.specs.Table.{follows, forget, idle_row, instance, is_followed, is_row_of, kept_row, row}
 use Rattle.pp_law.specs.Store.{load, load_from}
 use Rattle.pp_law.specs.Turn.{rest_with, rested_client, rested_conn, rested_instance, tick, touch}
 use Rattle.pp_law.specs.Unseen.{rested_exchange}
@@ -57,17 +56,18 @@ use Rattle.pp_laws_asks.proofs.InOrder.{found_in}
 use Rattle.pp_laws_bounds.proofs.Counts.{in_filter_of}
 use Rattle.pp_obeys.proofs.Come.{next-phase, onward, same_phase}
 use Rattle.pp_obeys.proofs.Forgetting.{leaving_with}
-use Rattle.pp_laws_turn.proofs.View.{View, Walk, Goes, Holds, IsBodied, IsFollowed, SameAsk, facts_of, holds, is_late, joined_in, view}
+use Rattle.pp_laws_turn.proofs.View.{View, Walk, Goes, Holds, IsHeard, IsFollowed, SameAsk, facts_of, holds, is_late, joined_in, view}
 use Rattle.pp_laws_turn.proofs.Cases.{by_aim_of, by_outcome, by_pause, each_of, each_so, when, when_so}
-use Rattle.pp_laws_turn.proofs.Clients.{HasPlace, ask-keeps, begin_replies-keeps, close_client-keeps, decided-keeps, end_replies-keeps, fill-keeps, give_up_asks-keeps, hang_up-keeps, hear-keeps, pour-keeps, regained-keeps, use_said-keeps}
+use Rattle.pp_laws_turn.proofs.Clients.{HasPlace, ask-keeps, begin_replies-keeps, close_client-keeps, decided-named, end_replies-keeps, fill-keeps, give_up_asks-keeps, hang_up-keeps, hear-keeps, pour-keeps, regained-keeps, use_said-keeps}
 use Rattle.pp_laws_turn.proofs.Closings.{close_conn-keeps}
 use Rattle.pp_laws_turn.proofs.Disk.{begin_in_opening-keeps, begin_in_turn-keeps, close_name-keeps, end_op-keeps, lose_in_opening-keeps, note_gone-keeps, note_kept-keeps}
 use Rattle.pp_laws_turn.proofs.Exchanges.{clients_changed-keeps, end_exchange-keeps, exchanges_changed-keeps, lose_attempt-keeps, on_client-keeps, on_conn-keeps, on_exchange-keeps, same_ask, same_conn, same_parts}
-use Rattle.pp_laws_turn.proofs.Heads.{by_aim-keeps}
-use Rattle.pp_laws_turn.proofs.Kept.{Turn, closed_alone, differs, turn_begins, turn_follows, turn_lined, turn_places, turn_walk, with_conns}
+use Rattle.pp_laws_turn.proofs.Heads.{by_aim-named}
+use Rattle.pp_laws_turn.proofs.Keys.{key_short}
+use Rattle.pp_laws_turn.proofs.Kept.{IsShort, named_short, Turn, closed_alone, differs, turn_begins, turn_follows, turn_lined, turn_places, turn_walk, with_conns}
 use Rattle.pp_laws_turn.proofs.Lined.{fewer_conns, more_conns}
 use Rattle.pp_laws_turn.proofs.Pieces.{bad_head-keeps, bad_response-keeps, ended-keeps, finish-keeps}
-use Rattle.pp_laws_turn.proofs.Rows.{drop_chunk-keeps, enter-keeps, forget-keeps, idle_alone, rows_mapped}
+use Rattle.pp_laws_turn.proofs.Rows.{drop_chunk-keeps, enter-named, forget-keeps, idle_alone, rows_mapped}
 use Rattle.pp_laws_turn.proofs.Same.{said_by-same}
 use Rattle.pp_laws_turn.proofs.Steps.{drop_unseen-keeps, placing-keeps, rested-keeps, tick-keeps, touch-keeps}
 
@@ -75,27 +75,35 @@ end_if_empty-turn : (k : Conn) (e : Exchange) (a : Answer) (s : State) → Holds
 unfolding end_if_empty
 end_if_empty-turn k e a s h = by_outcome (body_of a.rule []).outcome (λ rest. finish-keeps turn_walk k e a s h) h h
 
-begin_answer-turn : (k : Conn) (e : Exchange) (head : Response) (rule : BodyRule) (s : State) → Holds Turn s → Holds Turn (begin_answer k e head rule s)
+begin_answer-turn : (k : Conn) (e : Exchange) (head : Response) (rule : BodyRule) (s : State) → IsShort (key_of e) → Holds Turn s → Holds Turn (begin_answer k e head rule s)
 unfolding begin_answer
-begin_answer-turn k e head rule s h =
-    end_if_empty-turn k e (answer_with e head rule) _ (by_aim-keeps turn_walk e head rule _ (on_conn-keeps turn_walk k.number (answered_by (answer_with e head rule)) s (λ j. same_conn _ j refl refl refl) h))
+begin_answer-turn k e head rule s short h =
+    end_if_empty-turn k e (answer_with e head rule) _ (by_aim-named turn_walk e head rule _ short (on_conn-keeps turn_walk k.number (answered_by (answer_with e head rule)) s (λ j. same_conn _ j refl refl refl) h))
 
-answer_for-turn : (k : Conn) (e : Exchange) (head : Response) (s : State) → Holds Turn s → Holds Turn (answer_for k e head s)
+answer_for-turn : (k : Conn) (e : Exchange) (head : Response) (s : State) → IsShort (key_of e) → Holds Turn s → Holds Turn (answer_for k e head s)
 unfolding answer_for
-answer_for-turn k e head s h = when (is_wrong_head e head) (bad_head-keeps turn_walk k s h) (by_rule (rule_of (asks_head e) head.status head.fields))
+answer_for-turn k e head s short h = when (is_wrong_head e head) (bad_head-keeps turn_walk k s h) (by_rule (rule_of (asks_head e) head.status head.fields))
   where
     by_rule : (read : Result BodyRule ResponseFault) → Holds Turn (elim read as (λ c. State) [ Ok rule ↦ begin_answer k e head rule s | Err fault ↦ bad_head k s ])
-    by_rule (Ok rule) = begin_answer-turn k e head rule s h
+    by_rule (Ok rule) = begin_answer-turn k e head rule s short h
     by_rule (Err fault) = bad_head-keeps turn_walk k s h
 
 -- the kept row of its key comes into memory for it
-bring_row-turn : (e : Exchange) (head : Response) (s : State) → Holds Turn s → Holds Turn (bring_row e head s)
+bring_row-turn : (e : Exchange) (head : Response) (s : State) → IsShort (key_of e) → Holds Turn s → Holds Turn (bring_row e head s)
 unfolding bring_row
-bring_row-turn e head s h = when (is_readable e head) (enter-keeps turn_walk.rows (key_of e) true s h) h
+bring_row-turn e head s short h = when (is_readable e head) (enter-named turn_walk.rows (key_of e) true s short h) h
+
+-- the first of a line has the key of its target
+first_short : (s : State) (k : Conn) (e : Exchange) → front_of_line s k ≡ Some e → Holds Turn s → IsShort (key_of e)
+first_short s k e first h = key_short e.head.target e.key ((facts_of h).once e (by k.line first)).key
+  where
+    by : (line : List ℕ) → (elim line as (λ c. Option Exchange) [ [] ↦ None | n ∷ ns ↦ exchange s n ]) ≡ Some e → IsIn e s.exchanges
+    by [] is = absurd (cc is)
+    by (n ∷ ns) is = (in_find (is_exchange n) e s.exchanges is).0
 
 pub head_came-turn : (k : Conn) (head : Response) (s : State) → Holds Turn s → Holds Turn (head_came k head s)
 unfolding head_came
-head_came-turn k head s h = each_so (front_of_line s k) (λ none. close_conn-keeps turn_walk false k s h) (λ e first. answer_for-turn k e head _ (bring_row-turn e head s h))
+head_came-turn k head s h = each_so (front_of_line s k) (λ none. close_conn-keeps turn_walk false k s h) (λ e first. let short : IsShort (key_of e) = first_short s k e first h in answer_for-turn k e head _ short (bring_row-turn e head s short h))
 
 piece_when : (t : Bool) (p q : Piece) → Holds Turn p.state → Holds Turn q.state → Holds Turn (elim t as (λ c. Piece) [ true ↦ p | false ↦ q ]).state
 piece_when true p q hp hq = hp
@@ -204,6 +212,7 @@ phased p o s owes early h = let f = facts_of h in holds (record {
   bodied = f.bodied;
   once = f.once;
   made = f.made;
+  short = f.short;
 })
 
 free_so : (o : Owed) → is_free o ≡ true → is_free o ≡ false → ⊥
@@ -346,6 +355,7 @@ opened-turn n s h = holds (record {
   bodied = λ c i. bodied_by c (in_push c s.clients new i);
   once = f.once;
   made = λ c id i is. made_by c id (in_push c s.clients new i) is;
+  short = f.short;
 })
   where
     new : Client
@@ -365,9 +375,9 @@ opened-turn n s h = holds (record {
     news_by c x early (inl i) going j new_one is = f.news c x early i going j new_one is
     news_by c x early (inr eq) going j new_one is = none c x.id eq is
 
-    bodied_by : (c : Client) → IsIn c s.clients ⊎ (c ≡ new) → IsBodied c
+    bodied_by : (c : Client) → IsIn c s.clients ⊎ (c ≡ new) → IsHeard c
     bodied_by c (inl i) = f.bodied c i
-    bodied_by c (inr eq) = subst IsBodied (sym eq) (λ r is. absurd (cc is))
+    bodied_by c (inr eq) = subst IsHeard (sym eq) (λ r is. absurd (cc is))
 
     made_by : (c : Client) (id : ℕ) → IsIn c s.clients ⊎ (c ≡ new) → joined_in c.brought ≡ Some id → id < s.next_instance
     made_by c id (inl i) is = f.made c id i is
@@ -401,7 +411,7 @@ pub take_decision-turn : (n : ℕ) (d : Decision) (s : State) → is_late s.phas
 unfolding take_decision
 take_decision-turn n d s late going h =
     each_so (client s n) (λ none. h)
-    (λ c found. regained-keeps turn_walk _ (holds (facts_of (decided-keeps turn_walk turn_begins turn_follows c d s ((facts_of h).bodied c (in_find (is_client n) c s.clients found).0) (record { there = (in_find (is_client n) c s.clients found).0; going = going c found }) late h))))
+    (λ c found. regained-keeps turn_walk _ (holds (facts_of (decided-named turn_walk turn_begins turn_follows c d s (named_short c ((facts_of h).bodied c (in_find (is_client n) c s.clients found).0)) ((facts_of h).bodied c (in_find (is_client n) c s.clients found).0) (record { there = (in_find (is_client n) c s.clients found).0; going = going c found }) late h))))
 
 -- who is decided for goes on
 decided_going : (s : State) (c : Client) (n i : ℕ) (d : Decision) → due_of s c ≡ Some (Decide n i d) → (c.number ≡ n) × (c.is_closing ≡ false)
@@ -442,7 +452,7 @@ taken_going s n i d so may c found =
     subst (λ (x : Client). x.is_closing ≡ false) one w.3
 
 -- and a body is left of its request where that is asked once
-pub taken_bodied : (s : State) (n i : ℕ) (d : Decision) → permits_taken s n i d ≡ true → Holds Turn s → (c : Client) → client (deciding s) n ≡ Some c → IsBodied c
+pub taken_bodied : (s : State) (n i : ℕ) (d : Decision) → permits_taken s n i d ≡ true → Holds Turn s → (c : Client) → client (deciding s) n ≡ Some c → IsHeard c
 taken_bodied s n i d may h c found =
     let on = (gate (decides (come_to_decide s)) (may_take (come_to_decide s) n i d) may).0 in
     (facts_of (deciding-turn s on h)).bodied c (in_find (is_client n) c (deciding s).clients found).0
@@ -661,6 +671,7 @@ start-turn terms = holds (record {
   bodied = λ c i. absurd i;
   once = λ e i. absurd i;
   made = λ c id i. absurd i;
+  short = λ x i. absurd i;
 })
 
 woken-turn : (image : Files) (s : State) → Holds Turn (woken image s)
@@ -700,6 +711,7 @@ shut-turn n s h = holds (record {
   bodied = λ c i. closed.bodied c (in_filter (λ x. not (is_client n x)) c (close_client n false s).clients i).0;
   once = closed.once;
   made = λ c id i is. closed.made c id (in_filter (λ x. not (is_client n x)) c (close_client n false s).clients i).0 is;
+  short = closed.short;
 })
   where
     closed : Turn (view (close_client n false s))
@@ -777,6 +789,7 @@ rest_with-turn w s h = holds (record {
   bodied = f.bodied;
   once = f.once;
   made = f.made;
+  short = f.short;
 })
   where
     v : View

@@ -22,15 +22,15 @@ use Rattle.pp_laws.proofs.Lists.{in_find}
 use Rattle.pp_laws.proofs.Sound.{instance_id}
 use Rattle.pp_laws_bounds.proofs.Counts.{in_map_of}
 use Rattle.pp_laws_turn.proofs.Cases.{by_aim_of, each_of, each_so, when}
-use Rattle.pp_laws_turn.proofs.Exchanges.{client_same, clients_changed-keeps, same_parts, on_client_of-keeps, lose_attempt-keeps, on_exchange-keeps, same_ask}
-use Rattle.pp_laws_turn.proofs.View.{View, Walk, Holds, holds, facts_of, view, SameClient, joined_in}
-use Rattle.pp_laws_turn.proofs.Rows.{clear-keeps, make_row-keeps, mark_row-keeps, on_instance-keeps}
+use Rattle.pp_laws_turn.proofs.Exchanges.{client_same, same_parts, on_client_of-keeps, lose_attempt-keeps, on_exchange-keeps, same_ask}
+use Rattle.pp_laws_turn.proofs.View.{View, Walk, Holds, holds, facts_of, view, SameClient, joined_in, OfKeys, WalkOf}
+use Rattle.pp_laws_turn.proofs.Rows.{clear-keeps, make_row-named, mark_row-keeps, on_instance-keeps}
 
-tell-keeps : {P : View → Type 0} (w : Walk P) (e : Exchange) (brought : Brought) (s : State) → ((id : ℕ) → joined_in brought ≡ Some id → IsIn id (map instance_id s.instances)) → Holds P s → Holds P (tell e brought s)
+tell-keeps : {K : OfKeys} {P : View → Type 0} (w : WalkOf K P) (e : Exchange) (brought : Brought) (s : State) → ((id : ℕ) → joined_in brought ≡ Some id → IsIn id (map instance_id s.instances)) → Holds P s → Holds P (tell e brought s)
 unfolding tell
 tell-keeps w e brought s joins h = holds (w.tells (is_asked_by e) brought (view s) joins (facts_of h))
 
-use_body-keeps : {P : View → Type 0} (w : Walk P) (e : Exchange) (body : Body) (s : State) → Holds P s → Holds P (use_body e body s)
+use_body-keeps : {K : OfKeys} {P : View → Type 0} (w : WalkOf K P) (e : Exchange) (body : Body) (s : State) → Holds P s → Holds P (use_body e body s)
 unfolding use_body
 use_body-keeps w e body s h = on_exchange-keeps w e.number (λ x. record x { body = body }) s (λ x. same_ask _ x refl refl refl refl refl refl (λ is. is)) h
 
@@ -41,49 +41,49 @@ row_there e body s x found id is =
     let same_id : x.id ≡ id = cc is in
     subst (λ n. IsIn n (map instance_id s.instances)) same_id (in_map_of instance_id x s.instances (in_find (is_row_of (key_of e)) x s.instances found).0)
 
-drop_answer-keeps : {P : View → Type 0} (w : Walk P) (e : Exchange) (s : State) → Holds P s → Holds P (drop_answer e s)
+drop_answer-keeps : {K : OfKeys} {P : View → Type 0} (w : WalkOf K P) (e : Exchange) (s : State) → Holds P s → Holds P (drop_answer e s)
 unfolding drop_answer
 drop_answer-keeps w e s h = tell-keeps w e Useless _ (λ id is. absurd (cc is)) (use_body-keeps w e Dropping s h)
 
-useless-keeps : {P : View → Type 0} (w : Walk P) (e : Exchange) (s : State) → Holds P s → Holds P (useless e s)
+useless-keeps : {K : OfKeys} {P : View → Type 0} (w : WalkOf K P) (e : Exchange) (s : State) → Holds P s → Holds P (useless e s)
 unfolding useless
 useless-keeps w e s h = lose_attempt-keeps w e _ (drop_answer-keeps w e s h)
 
 -- ---- a response with a version
 
-renew-keeps : {P : View → Type 0} (w : Walk P) (x : Instance) (head : Response) (times : Times) (s : State) → Holds P s → Holds P (renew x head times s)
+renew-keeps : {K : OfKeys} {P : View → Type 0} (w : WalkOf K P) (x : Instance) (head : Response) (times : Times) (s : State) → Holds P s → Holds P (renew x head times s)
 unfolding renew
 renew-keeps w x head times s h = mark_row-keeps w.rows x.id _ (on_instance-keeps w.rows x.id (renewed head times) s (λ y. record { id = refl; key = refl; is_new = λ is. is; retired = λ is. is }) h)
 
-renew_row-keeps : {P : View → Type 0} (w : Walk P) (e : Exchange) (head : Response) (s : State) → Holds P s → Holds P (renew_row e head s)
+renew_row-keeps : {K : OfKeys} {P : View → Type 0} (w : WalkOf K P) (e : Exchange) (head : Response) (s : State) → Holds P s → Holds P (renew_row e head s)
 unfolding renew_row
 renew_row-keeps w e head s h = each_of (row s (key_of e)) h (λ x. renew-keeps w x head (times_for e head s) s h)
 
-settle_on-keeps : {P : View → Type 0} (w : Walk P) (e : Exchange) (head : Response) (v : Version) (s : State) → Holds P s → Holds P (settle_on e head v s)
+settle_on-keeps : {K : OfKeys} {P : View → Type 0} (w : WalkOf K P) (e : Exchange) (head : Response) (v : Version) (s : State) → Holds P s → Holds P (settle_on e head v s)
 unfolding settle_on
 settle_on-keeps w e head v s h =
     each_so (row s (key_of e)) (λ none. h)
     (λ x found. tell-keeps w e (Joins x.id (not (has_field (codes "age") head.fields))) _ (row_there e (Joining (span_to_come e head v x.id)) s x found) (use_body-keeps w e (Joining (span_to_come e head v x.id)) s h))
 
-settle_known-keeps : {P : View → Type 0} (w : Walk P) (e : Exchange) (head : Response) (v : Version) (s : State) → Holds P s → Holds P (settle_known e head v s)
+settle_known-keeps : {K : OfKeys} {P : View → Type 0} (w : WalkOf K P) (e : Exchange) (head : Response) (v : Version) (s : State) → Holds P s → Holds P (settle_known e head v s)
 unfolding settle_known
 settle_known-keeps w e head v s h = when (may_refresh e head s) (settle_on-keeps w e head v _ (renew_row-keeps w e head s h)) (useless-keeps w e s h)
 
-settle-keeps : {P : View → Type 0} (w : Walk P) (e : Exchange) (head : Response) (v : Version) (s : State) → Holds P s → Holds P (settle e head v s)
+settle-keeps : {K : OfKeys} {P : View → Type 0} (w : WalkOf K P) (e : Exchange) (head : Response) (v : Version) (s : State) → K (key_of e) → Holds P s → Holds P (settle e head v s)
 unfolding settle
-settle-keeps w e head v s h =
+settle-keeps w e head v s of h =
     when (is_some_with (may_join e head v) (known_version s (key_of e)))
     (settle_known-keeps w e head v s h)
-    (settle_on-keeps w e head v _ (make_row-keeps w.rows (key_of e) v (kept_of head.fields (times_for e head s)) (times_for e head s) s h))
+    (settle_on-keeps w e head v _ (make_row-named w.rows (key_of e) v (kept_of head.fields (times_for e head s)) (times_for e head s) s of h))
 
 -- ---- 304
 
-settle_unchanged-keeps : {P : View → Type 0} (w : Walk P) (e : Exchange) (s : State) → Holds P s → Holds P (settle_unchanged e s)
+settle_unchanged-keeps : {K : OfKeys} {P : View → Type 0} (w : WalkOf K P) (e : Exchange) (s : State) → Holds P s → Holds P (settle_unchanged e s)
 unfolding settle_unchanged
 settle_unchanged-keeps w e s h =
     each_so (row s (key_of e)) (λ none. h) (λ x found. tell-keeps w e (Joins x.id false) _ (row_there e (Joining (nothing_to_come x)) s x found) (use_body-keeps w e (Joining (nothing_to_come x)) s h))
 
-unchanged-keeps : {P : View → Type 0} (w : Walk P) (e : Exchange) (head : Response) (s : State) → Holds P s → Holds P (unchanged e head s)
+unchanged-keeps : {K : OfKeys} {P : View → Type 0} (w : WalkOf K P) (e : Exchange) (head : Response) (s : State) → Holds P s → Holds P (unchanged e head s)
 unfolding unchanged
 unchanged-keeps w e head s h = when (is_some_with (names_version e) (known_version s (key_of e)) && may_refresh e head s) (settle_unchanged-keeps w e _ (renew_row-keeps w e head s h)) (useless-keeps w e s h)
 
@@ -96,11 +96,11 @@ without_shared_row-same most c = by (c.has_given_up && not (is_begun c)) (is_beg
     by false true = client_same c
     by false false = same_parts _ c refl refl refl refl refl (λ is. is)
 
-not_shared-keeps : {P : View → Type 0} (w : Walk P) (e : Exchange) (s : State) → Holds P s → Holds P (not_shared e s)
+not_shared-keeps : {K : OfKeys} {P : View → Type 0} (w : WalkOf K P) (e : Exchange) (s : State) → Holds P s → Holds P (not_shared e s)
 unfolding not_shared
 not_shared-keeps w e s h = on_client_of-keeps w e (without_shared_row (attempts_of e)) _ (without_shared_row-same (attempts_of e)) (drop_answer-keeps w e _ (clear-keeps w.rows (key_of e) s h))
 
-not_modified-keeps : {P : View → Type 0} (w : Walk P) (e : Exchange) (head : Response) (s : State) → Holds P s → Holds P (not_modified e head s)
+not_modified-keeps : {K : OfKeys} {P : View → Type 0} (w : WalkOf K P) (e : Exchange) (head : Response) (s : State) → Holds P s → Holds P (not_modified e head s)
 unfolding not_modified
 not_modified-keeps w e head s h =
     when (forbids_sharing head)
@@ -109,22 +109,22 @@ not_modified-keeps w e head s h =
 
 -- ---- a response without a version
 
-cleared_by-keeps : {P : View → Type 0} (w : Walk P) (head : Response) (e : Exchange) (s : State) → Holds P s → Holds P (cleared_by head e s)
+cleared_by-keeps : {K : OfKeys} {P : View → Type 0} (w : WalkOf K P) (head : Response) (e : Exchange) (s : State) → Holds P s → Holds P (cleared_by head e s)
 unfolding cleared_by
 cleared_by-keeps w head e s h = when (clears_row head) (clear-keeps w.rows (key_of e) s h) h
 
-relay_head-keeps : {P : View → Type 0} (w : Walk P) (e : Exchange) (head : Response) (rule : BodyRule) (s : State) → Holds P s → Holds P (relay_head e head rule s)
+relay_head-keeps : {K : OfKeys} {P : View → Type 0} (w : WalkOf K P) (e : Exchange) (head : Response) (rule : BodyRule) (s : State) → Holds P s → Holds P (relay_head e head rule s)
 unfolding relay_head
 relay_head-keeps w e head rule s h = tell-keeps w e (Passes (passed_by e head rule)) _ (λ id is. absurd (cc is)) (use_body-keeps w e (relayed e s) s h)
 
-other_head-keeps : {P : View → Type 0} (w : Walk P) (e : Exchange) (head : Response) (rule : BodyRule) (s : State) → Holds P s → Holds P (other_head e head rule s)
+other_head-keeps : {K : OfKeys} {P : View → Type 0} (w : WalkOf K P) (e : Exchange) (head : Response) (rule : BodyRule) (s : State) → Holds P s → Holds P (other_head e head rule s)
 unfolding other_head
 other_head-keeps w e head rule s h =
     when (is_widened e head)
     (tell-keeps w e TooWide _ (λ id is. absurd (cc is)) (use_body-keeps w e Dropping _ (cleared_by-keeps w head e s h)))
     (relay_head-keeps w e head rule _ (cleared_by-keeps w head e s h))
 
-other_part-keeps : {P : View → Type 0} (w : Walk P) (e : Exchange) (head : Response) (rule : BodyRule) (s : State) → Holds P s → Holds P (other_part e head rule s)
+other_part-keeps : {K : OfKeys} {P : View → Type 0} (w : WalkOf K P) (e : Exchange) (head : Response) (rule : BodyRule) (s : State) → Holds P s → Holds P (other_part e head rule s)
 unfolding other_part
 other_part-keeps w e head rule s h =
     when (is_private_part head)
@@ -133,51 +133,54 @@ other_part-keeps w e head rule s h =
 
 -- ---- heads by what was asked
 
-own_head-keeps : {P : View → Type 0} (w : Walk P) (e : Exchange) (head : Response) (rule : BodyRule) (s : State) → Holds P s → Holds P (own_head e head rule s)
+own_head-keeps : {K : OfKeys} {P : View → Type 0} (w : WalkOf K P) (e : Exchange) (head : Response) (rule : BodyRule) (s : State) → K (key_of e) → Holds P s → Holds P (own_head e head rule s)
 unfolding own_head
-own_head-keeps {P} w e head rule s h = by (version_in e head)
+own_head-keeps {P} w e head rule s of h = by (version_in e head)
   where
     by : (o : Option Version) → Holds P (elim o as (λ c. State) [ Some v ↦ settle e head v s | None ↦ elim (head.status == 304) as (λ c. State) [ true ↦ not_modified e head s | false ↦ other_head e head rule s ] ])
-    by (Some v) = settle-keeps w e head v s h
+    by (Some v) = settle-keeps w e head v s of h
     by None = when (head.status == 304) (not_modified-keeps w e head s h) (other_head-keeps w e head rule s h)
 
-part_head-keeps : {P : View → Type 0} (w : Walk P) (e : Exchange) (head : Response) (rule : BodyRule) (s : State) → Holds P s → Holds P (part_head e head rule s)
+part_head-keeps : {K : OfKeys} {P : View → Type 0} (w : WalkOf K P) (e : Exchange) (head : Response) (rule : BodyRule) (s : State) → K (key_of e) → Holds P s → Holds P (part_head e head rule s)
 unfolding part_head
-part_head-keeps {P} w e head rule s h = by (version_in e head)
+part_head-keeps {P} w e head rule s of h = by (version_in e head)
   where
     by : (o : Option Version) → Holds P (elim o as (λ c. State) [ Some v ↦ settle e head v s | None ↦ elim (head.status == 304) as (λ c. State) [ true ↦ not_modified e head s | false ↦ other_part e head rule s ] ])
-    by (Some v) = settle-keeps w e head v s h
+    by (Some v) = settle-keeps w e head v s of h
     by None = when (head.status == 304) (not_modified-keeps w e head s h) (other_part-keeps w e head rule s h)
 
-filling_head-keeps : {P : View → Type 0} (w : Walk P) (e : Exchange) (head : Response) (rule : BodyRule) (s : State) → Holds P s → Holds P (filling_head e head rule s)
+filling_head-keeps : {K : OfKeys} {P : View → Type 0} (w : WalkOf K P) (e : Exchange) (head : Response) (rule : BodyRule) (s : State) → K (key_of e) → Holds P s → Holds P (filling_head e head rule s)
 unfolding filling_head count_elsewhere
-filling_head-keeps w e head rule s h =
+filling_head-keeps w e head rule s of h =
     when (is_some_with is_bound (exchange (part_head e head rule s) e.number) && list_any (λ c. is_for e c && lacks_next (part_head e head rule s) c) (part_head e head rule s).clients)
-    (lose_attempt-keeps w e _ (part_head-keeps w e head rule s h)) (part_head-keeps w e head rule s h)
+    (lose_attempt-keeps w e _ (part_head-keeps w e head rule s of h)) (part_head-keeps w e head rule s of h)
 
 -- ---- a response that is passed
 
-clear_named-keeps : {P : View → Type 0} (w : Walk P) (key : Key) (text : Bytes) (s : State) → Holds P s → Holds P (clear_named key text s)
+clear_named-keeps : {K : OfKeys} {P : View → Type 0} (w : WalkOf K P) (key : Key) (text : Bytes) (s : State) → Holds P s → Holds P (clear_named key text s)
 unfolding clear_named
 clear_named-keeps w key text s h = each_of (key_named key text) h (λ named. when (is_same_host named key) (clear-keeps w.rows (text_of named) s h) h)
 
-clear_each-keeps : {P : View → Type 0} (w : Walk P) (key : Key) (texts : List Bytes) (s : State) → Holds P s → Holds P (clear_each key texts s)
+clear_each-keeps : {K : OfKeys} {P : View → Type 0} (w : WalkOf K P) (key : Key) (texts : List Bytes) (s : State) → Holds P s → Holds P (clear_each key texts s)
 unfolding clear_each
 clear_each-keeps w key [] s h = h
 clear_each-keeps w key (text ∷ texts) s h = clear_each-keeps w key texts _ (clear_named-keeps w key text s h)
 
-invalidated-keeps : {P : View → Type 0} (w : Walk P) (e : Exchange) (head : Response) (s : State) → Holds P s → Holds P (invalidated e head s)
+invalidated-keeps : {K : OfKeys} {P : View → Type 0} (w : WalkOf K P) (e : Exchange) (head : Response) (s : State) → Holds P s → Holds P (invalidated e head s)
 unfolding invalidated
 invalidated-keeps w e head s h = when (invalidates e head) (clear_each-keeps w e.key (places_named head) _ (clear-keeps w.rows (key_of e) s h)) h
 
-disproved-keeps : {P : View → Type 0} (w : Walk P) (e : Exchange) (head : Response) (s : State) → Holds P s → Holds P (disproved e head s)
+disproved-keeps : {K : OfKeys} {P : View → Type 0} (w : WalkOf K P) (e : Exchange) (head : Response) (s : State) → Holds P s → Holds P (disproved e head s)
 unfolding disproved
 disproved-keeps w e head s h = when (reads e && is_some_with (disproves head) (known_version s (key_of e))) (clear-keeps w.rows (key_of e) s h) h
 
-through_head-keeps : {P : View → Type 0} (w : Walk P) (e : Exchange) (head : Response) (rule : BodyRule) (s : State) → Holds P s → Holds P (through_head e head rule s)
+through_head-keeps : {K : OfKeys} {P : View → Type 0} (w : WalkOf K P) (e : Exchange) (head : Response) (rule : BodyRule) (s : State) → Holds P s → Holds P (through_head e head rule s)
 unfolding through_head
 through_head-keeps w e head rule s h = relay_head-keeps w e head rule _ (disproved-keeps w e head _ (invalidated-keeps w e head s h))
 
-pub by_aim-keeps : {P : View → Type 0} (w : Walk P) (e : Exchange) (head : Response) (rule : BodyRule) (s : State) → Holds P s → Holds P (by_aim e head rule s)
+pub by_aim-named : {K : OfKeys} {P : View → Type 0} (w : WalkOf K P) (e : Exchange) (head : Response) (rule : BodyRule) (s : State) → K (key_of e) → Holds P s → Holds P (by_aim e head rule s)
 unfolding by_aim
-by_aim-keeps w e head rule s h = by_aim_of e.aim (through_head-keeps w e head rule s h) (own_head-keeps w e head rule s h) (λ v from to. filling_head-keeps w e head rule s h)
+by_aim-named w e head rule s of h = by_aim_of e.aim (through_head-keeps w e head rule s h) (own_head-keeps w e head rule s of h) (λ v from to. filling_head-keeps w e head rule s of h)
+
+pub by_aim-keeps : {P : View → Type 0} (w : Walk P) (e : Exchange) (head : Response) (rule : BodyRule) (s : State) → Holds P s → Holds P (by_aim e head rule s)
+by_aim-keeps w e head rule s h = by_aim-named w e head rule s tt h

@@ -1,22 +1,35 @@
 -- What is kept of clients, exchanges and rows: what a client follows is there, an exchange is for a client that goes on, at that very
 -- request, and of one without a place nothing was asked.
-use Rattle.std.proofs.Common.{◌≡◌, ◌⊎◌, refl, ℕ, ◌+◌, ◌<◌, ◌≤◌, Bool, true, false, not, ◌==◌, ◌||◌, List, [], ◌∷◌, ◌++◌, map, filter, find, cond, is_some, Option, Some, None, inl, inr, sym, subst, ap, ◌∙◌, le_trans, lt_irrefl, arith}
+use Rattle.std.proofs.Common.{◌≡◌, ◌⊎◌, refl, ℕ, ◌<◌, ◌≤◌, Bool, true, false, not, ◌==◌, ◌||◌, List, [], ◌∷◌, map, filter, find, cond, length, Option, Some, None, inl, inr, sym, subst, ap, ◌∙◌, lt_irrefl, Result, Ok, Err, arith}
 use Rattle.pp_law.specs.Closing.{close_client, exchanges_of, forsake, is_of, is_over, leave, leave_one, left_alone}
 use Rattle.pp_law.specs.Connections.{each_exchange, end_exchange, exchange, is_client, is_conn, is_exchange, on_client, on_conn, on_exchange, put_on, without_ask}
 use Rattle.pp_law.specs.Deciding.{add_exchange, begin_exchange}
-use Rattle.pp_law.specs.Lists.{change, is_some_with, is_this}
+use Rattle.pp_law.specs.Lists.{Bytes, change, is_some_with, is_this}
 use Rattle.pp_law.specs.Phases.{is_free}
-use Rattle.pp_law.specs.Requests.{Parsed, IsRequest, is_asked_once}
+use Rattle.pp_law.specs.Requests.{Front, Parsed, IsRequest, NoHead, NoHeadYet, is_asked_once, key_in}
 use Rattle.pp_law.specs.Table.{swept}
 use Rattle.pp_law.specs.State.{State, Brought, Client, Conn, Exchange, Instance, Owed, Phase, Handling}
+use Rattle.pp_head.specs.Request.{Request}
+use Rattle.pp_target.specs.Key.{Key, key_at, text_of}
+use Rattle.pp_target.specs.declared.target.TargetFault.{TargetFault}
 use Rattle.pp_laws.specs.Runs.{IsIn}
-use Rattle.pp_laws.proofs.Lists.{Changed, From, changed_at, in_change, in_filter, in_find, in_map, in_push, other, same}
+use Rattle.pp_laws.proofs.Lists.{Changed, changed_at, in_change, in_filter, in_find, in_map, in_push, other, same}
 use Rattle.pp_laws.proofs.Sound.{exchange_number, instance_id, source_in}
 use Rattle.pp_laws.proofs.Tests.{number_same, same_number}
 use Rattle.pp_laws_bounds.proofs.Counts.{in_filter_of, in_map_of}
 use Rattle.pp_laws_turn.proofs.Exchanges.{shorter}
+use Rattle.pp_laws_turn.proofs.Keys.{key_short}
 use Rattle.pp_laws_turn.proofs.Lined.{AreLined, begun_lined, fewer_lined, lesser_lined, longer, put_lined}
-use Rattle.pp_laws_turn.proofs.View.{View, Walk, Begins, Follows, Holds, Places, FromRow, Goes, IsAt, IsBodied, IsNew, Lesser, MovesOn, RowsFrom, SameAsk, SameClient, SameRequest, WasRow, facts_of, holds, is_late, joined_in, view}
+use Rattle.pp_laws_turn.proofs.View.{View, WalkOf, Begins, Follows, Holds, Places, FromRow, Goes, IsAt, IsHeard, Lesser, MovesOn, RowsFromOf, SameAsk, SameClient, facts_of, is_late, joined_in, view}
+
+-- ours: no key has more than 8,192 bytes
+abbrev pub IsShort : Bytes → Type 0
+IsShort key = length key ≤ 8192
+
+-- its key is that of its request's target, and where any of a body is left, it is asked once
+pub record IsOfRequest (e : Exchange) : Type 0 where
+  pub key : key_at e.head.target ≡ Ok e.key
+  pub once : (e.body_left ≡ 0) ⊎ (is_asked_once e.head ≡ true)
 
 -- a client that goes on is answered from an instance that is there; where new ones may still leave memory, from none of these
 pub record Facts (but : Option ℕ) (phase : Phase) (owed : Owed) (clients : List Client) (conns : List Conn) (exchanges : List Exchange) (next_exchange : ℕ) (instances : List Instance) (next_instance : ℕ) : Type 0 where
@@ -28,9 +41,10 @@ pub record Facts (but : Option ℕ) (phase : Phase) (owed : Owed) (clients : Lis
   pub goes : (e : Exchange) (n : ℕ) → IsIn e exchanges → e.asker ≡ Some n → (but ≡ Some n → ⊥) → Goes e n clients
   pub fresh : (e : Exchange) → IsIn e exchanges → e.place ≡ None → e.asked ≡ 0
   pub lined : AreLined conns exchanges next_exchange
-  pub bodied : (c : Client) → IsIn c clients → IsBodied c
-  pub once : (e : Exchange) → IsIn e exchanges → (e.body_left ≡ 0) ⊎ (is_asked_once e.head ≡ true)
+  pub bodied : (c : Client) → IsIn c clients → IsHeard c
+  pub once : (e : Exchange) → IsIn e exchanges → IsOfRequest e
   pub made : (c : Client) (id : ℕ) → IsIn c clients → joined_in c.brought ≡ Some id → id < next_instance
+  pub short : (x : Instance) → IsIn x instances → IsShort x.key
 
 -- but those of this client
 abbrev pub TurnBut : Option ℕ → View → Type 0
@@ -47,7 +61,7 @@ record Still (d c : Client) : Type 0 where
   closing : d.is_closing ≡ c.is_closing
   source : (id : ℕ) → source_in d.stage ≡ Some id → source_in c.stage ≡ Some id
   request : (r : Parsed) → c.front ≡ IsRequest r → d.front ≡ IsRequest r
-  body : IsBodied c → IsBodied d
+  body : IsHeard c → IsHeard d
 
 goes_over : (f : Client → Client) → ((c : Client) → Still (f c) c) → (e : Exchange) (n : ℕ) (cs : List Client) → Goes e n cs → Goes e n (map f cs)
 goes_over f same_one e n cs g =
@@ -71,9 +85,10 @@ clients_still f same_one v made h = record {
   goes = λ e n i is off. goes_over f same_one e n v.clients (h.goes e n i is off);
   fresh = h.fresh;
   lined = h.lined;
-  bodied = λ c i. let r = in_map f c v.clients i in subst IsBodied (sym r.is) ((same_one r.was).body (h.bodied r.was r.there));
+  bodied = λ c i. let r = in_map f c v.clients i in subst IsHeard (sym r.is) ((same_one r.was).body (h.bodied r.was r.there));
   once = h.once;
   made = λ c id i is. let r = in_map f c v.clients i in made r.was id r.there (ap (λ (x : Client). joined_in x.brought) (sym r.is) ∙ is);
+  short = h.short;
 }
 
 still_so : (d c : Client) → SameClient d c → Still d c
@@ -99,13 +114,12 @@ tells_turn test b v there h = clients_still (changed_at test told) (λ c. still 
 
 -- ---- exchanges
 
--- nothing of a body is left, or it is asked once
-abbrev IsOnce : Exchange → Type 0
-IsOnce e = (e.body_left ≡ 0) ⊎ (is_asked_once e.head ≡ true)
-
-once_as : (d e : Exchange) → d.head ≡ e.head → (e.body_left ≡ 0 → d.body_left ≡ 0) → IsOnce e → IsOnce d
-once_as d e head left (inl none) = inl (left none)
-once_as d e head left (inr is) = inr (ap is_asked_once head ∙ is)
+once_as : (d e : Exchange) → d.head ≡ e.head → d.key ≡ e.key → (e.body_left ≡ 0 → d.body_left ≡ 0) → IsOfRequest e → IsOfRequest d
+once_as d e head key left of = record { key = ap (λ (r : Request). key_at r.target) head ∙ of.key ∙ ap (λ (k : Key). Ok k) (sym key); once = by of.once }
+  where
+    by : (e.body_left ≡ 0) ⊎ (is_asked_once e.head ≡ true) → (d.body_left ≡ 0) ⊎ (is_asked_once d.head ≡ true)
+    by (inl none) = inl (left none)
+    by (inr is) = inr (ap is_asked_once head ∙ is)
 
 goes_as : (d e : Exchange) (n : ℕ) (cs : List Client) → d.head ≡ e.head → Goes e n cs → Goes d n cs
 goes_as d e n cs head g = record { client = g.client; there = g.there; number = g.number; at = record { going = g.at.going; request = g.at.request; front = g.at.front; head = g.at.head ∙ sym head } }
@@ -144,15 +158,16 @@ asks_turn f v same_one h = record {
   once = λ e i.
       let r = in_map f e v.exchanges i in
       let s = same_one r.was r.there in
-      subst IsOnce (sym r.is) (once_as (f r.was) r.was s.head s.body (h.once r.was r.there));
+      subst IsOfRequest (sym r.is) (once_as (f r.was) r.was s.head s.key s.body (h.once r.was r.there));
   made = h.made;
+  short = h.short;
 }
 
 -- ---- connections
 
 -- where their lines are as they have to be
 pub with_conns : (but : Option ℕ) (conns : List Conn) (v : View) → AreLined conns v.exchanges v.next_exchange → TurnBut but v → TurnBut but (record v { conns = conns })
-with_conns but conns v lined h = record { owes = h.owes; given = h.given; source = h.source; news = h.news; one = h.one; goes = h.goes; fresh = h.fresh; lined = lined; bodied = h.bodied; once = h.once; made = h.made }
+with_conns but conns v lined h = record { owes = h.owes; given = h.given; source = h.source; news = h.news; one = h.one; goes = h.goes; fresh = h.fresh; lined = lined; bodied = h.bodied; once = h.once; made = h.made; short = h.short }
 
 conns_turn : (but : Option ℕ) (f : Conn → Conn) → ((k : Conn) → Lesser (f k) k) → (v : View) → TurnBut but v → TurnBut but (record v { conns = map f v.conns })
 conns_turn but f lesser v h = with_conns but (map f v.conns) v (lesser_lined f v.conns v.exchanges v.next_exchange lesser h.lined) h
@@ -166,6 +181,7 @@ record FromAsk (xs : List Exchange) (e : Exchange) : Type 0 where
   number : e.number ≡ was.number
   asker : (n : ℕ) → e.asker ≡ Some n → was.asker ≡ Some n
   head : e.head ≡ was.head
+  key : e.key ≡ was.key
   place : e.place ≡ was.place
   asked : e.asked ≡ was.asked
   body : was.body_left ≡ 0 → e.body_left ≡ 0
@@ -181,12 +197,13 @@ fewer_turn but v ys from h = record {
   fresh = λ e i none. let r = from e i in r.asked ∙ h.fresh r.was r.there (sym r.place ∙ none);
   lined = fewer_lined v.conns v.exchanges ys v.next_exchange (λ e i. let r = from e i in record { was = r.was; there = r.there; number = r.number; head = r.head }) h.lined;
   bodied = h.bodied;
-  once = λ e i. let r = from e i in once_as e r.was r.head r.body (h.once r.was r.there);
+  once = λ e i. let r = from e i in once_as e r.was r.head r.key r.body (h.once r.was r.there);
   made = h.made;
+  short = h.short;
 }
 
 ask_kept : (xs : List Exchange) (e : Exchange) → IsIn e xs → FromAsk xs e
-ask_kept xs e i = record { was = e; there = i; number = refl; asker = λ n is. is; head = refl; place = refl; asked = refl; body = λ is. is }
+ask_kept xs e i = record { was = e; there = i; number = refl; asker = λ n is. is; head = refl; key = refl; place = refl; asked = refl; body = λ is. is }
 
 left_from : (test : Exchange → Bool) (xs : List Exchange) (e : Exchange) → IsIn e (change test left_alone xs) → FromAsk xs e
 left_from test xs e i = by (in_change test left_alone e xs i)
@@ -199,6 +216,7 @@ left_from test xs e i = by (in_change test left_alone e xs i)
       number = ap exchange_number eq;
       asker = λ n is. let both : None ≡ Some n = sym (ap (λ (y : Exchange). y.asker) eq) ∙ is in absurd (cc both);
       head = ap (λ (y : Exchange). y.head) eq;
+      key = ap (λ (y : Exchange). y.key) eq;
       place = ap (λ (y : Exchange). y.place) eq;
       asked = ap (λ (y : Exchange). y.asked) eq;
       body = λ is. ap (λ (y : Exchange). y.body_left) eq ∙ is;
@@ -215,7 +233,7 @@ over_turn but test v h = fewer_turn but v (filter test v.exchanges) (over_from t
 
 -- ---- rows
 
-rows_turn : (xs : List Instance) (next : ℕ) (v : View) → RowsFrom v xs next → Turn v → Turn (record v { instances = xs; next_instance = next })
+rows_turn : (xs : List Instance) (next : ℕ) (v : View) → RowsFromOf IsShort v xs next → Turn v → Turn (record v { instances = xs; next_instance = next })
 rows_turn xs next v from h = record {
   owes = h.owes;
   given = λ x i. given_by x (from.from x i);
@@ -228,8 +246,13 @@ rows_turn xs next v from h = record {
   bodied = h.bodied;
   once = h.once;
   made = λ c id i is. let lt : id < v.next_instance = h.made c id i is in let le : v.next_instance ≤ next = from.grows in omega arith;
+  short = λ x i. short_by x (from.keys x i);
 }
   where
+    short_by : (x : Instance) → FromRow v.instances x ⊎ IsShort x.key → IsShort x.key
+    short_by x (inl r) = subst IsShort (sym r.is.key) (h.short r.was r.there)
+    short_by x (inr short) = short
+
     given_by : (x : Instance) → FromRow v.instances x ⊎ ((x.id ≡ v.next_instance) × (x.id < next)) → x.id < next
     given_by x (inl r) = let lt : r.was.id < v.next_instance = h.given r.was r.there in let is : x.id ≡ r.was.id = r.is.id in let le : v.next_instance ≤ next = from.grows in omega arith
     given_by x (inr w) = w.1
@@ -271,13 +294,13 @@ in_changed_other n f c cs i isnt = subst (λ (d : Client). IsIn d (change (is_cl
 -- one client is changed, and its exchanges do not count
 record OneClient (n : ℕ) (f : Client → Client) : Type 0 where
   number : (c : Client) → (f c).number ≡ c.number
-  body : (c : Client) → IsBodied c → IsBodied (f c)
+  body : (c : Client) → IsHeard c → IsHeard (f c)
   source : (c : Client) (id : ℕ) → (f c).is_closing ≡ false → source_in (f c).stage ≡ Some id → (c.is_closing ≡ false) × (source_in c.stage ≡ Some id)
   joins : (c : Client) (id : ℕ) → joined_in (f c).brought ≡ Some id → joined_in c.brought ≡ Some id
 
-bodied_by : (n : ℕ) (f : Client → Client) → ((c : Client) → IsBodied c → IsBodied (f c)) → (c : Client) (cs : List Client) → ((d : Client) → IsIn d cs → IsBodied d) → Changed (is_client n) f cs c → IsBodied c
+bodied_by : (n : ℕ) (f : Client → Client) → ((c : Client) → IsHeard c → IsHeard (f c)) → (c : Client) (cs : List Client) → ((d : Client) → IsIn d cs → IsHeard d) → Changed (is_client n) f cs c → IsHeard c
 bodied_by n f body c cs bodied (same i isnt) = bodied c i
-bodied_by n f body c cs bodied (other d i hit eq) = subst IsBodied (sym eq) (body d (bodied d i))
+bodied_by n f body c cs bodied (other d i hit eq) = subst IsHeard (sym eq) (body d (bodied d i))
 
 made_by : (n : ℕ) (f : Client → Client) → ((c : Client) (id : ℕ) → joined_in (f c).brought ≡ Some id → joined_in c.brought ≡ Some id) → (c : Client) (id : ℕ) (cs : List Client) (next : ℕ) → ((d : Client) (k : ℕ) → IsIn d cs → joined_in d.brought ≡ Some k → k < next)
     → Changed (is_client n) f cs c → joined_in c.brought ≡ Some id → id < next
@@ -302,6 +325,7 @@ client_turn n f o v h = record {
   bodied = λ c i. bodied_by n f o.body c v.clients h.bodied (in_change (is_client n) f c v.clients i);
   once = h.once;
   made = λ c id i is. made_by n f o.joins c id v.clients v.next_instance h.made (in_change (is_client n) f c v.clients i) is;
+  short = h.short;
 }
   where
     was : (c : Client) (id : ℕ) → Changed (is_client n) f v.clients c → c.is_closing ≡ false → source_in c.stage ≡ Some id → (d : Client) × IsIn d v.clients × (d.is_closing ≡ false) × (source_in d.stage ≡ Some id)
@@ -322,6 +346,7 @@ all_count n v none h = record {
   bodied = h.bodied;
   once = h.once;
   made = h.made;
+  short = h.short;
 }
 
 leaves_turn : (n : ℕ) (f : Client → Client) → ((c : Client) → MovesOn (f c) c) → (v : View) → Turn v → Turn (record v { clients = change (is_client n) f v.clients; exchanges = change (is_of n) left_alone v.exchanges })
@@ -401,7 +426,7 @@ all_left n (m ∷ ns) s h = all_left n ns _ (by (exchange s m))
     by None = h
     by (Some e) = left_one n e s h
 
-closes_turn : (n : ℕ) (f : Client → Client) → ((c : Client) → (f c).number ≡ c.number) → ((c : Client) → (f c).is_closing ≡ true) → ((c : Client) → IsBodied c → IsBodied (f c)) → ((c : Client) → (f c).brought ≡ c.brought) → (s : State) → Turn (view s) → Turn (view (each_exchange leave_one (exchanges_of n s) (on_client n f s)))
+closes_turn : (n : ℕ) (f : Client → Client) → ((c : Client) → (f c).number ≡ c.number) → ((c : Client) → (f c).is_closing ≡ true) → ((c : Client) → IsHeard c → IsHeard (f c)) → ((c : Client) → (f c).brought ≡ c.brought) → (s : State) → Turn (view s) → Turn (view (each_exchange leave_one (exchanges_of n s) (on_client n f s)))
 unfolding on_client
 closes_turn n f number closing body brought s h =
     all_count n (view (each_exchange leave_one (exchanges_of n s) (on_client n f s))) (λ e i is. each_left n (exchanges_of n s) (on_client n f s) (λ d j its. numbered n s.exchanges d j its) e i is)
@@ -419,9 +444,23 @@ pub closed_alone : (n : ℕ) (is_cut : Bool) (s : State) → AreOf n [] (close_c
 unfolding close_client swept
 closed_alone n is_cut s = each_left n (exchanges_of n s) _ (all_numbered n is_cut s)
 
+-- ---- the key of a request
+
+pub named_short : (c : Client) → IsHeard c → (key : Key) → key_in c.front ≡ Some key → IsShort (text_of key)
+named_short c heard key is = by c.front refl is
+  where
+    of : (r : Parsed) (k : Result Key TargetFault) → c.front ≡ IsRequest r → r.key ≡ k → (elim k as (λ t. Option Key) [ Ok x ↦ Some x | Err fault ↦ None ]) ≡ Some key → IsShort (text_of key)
+    of r (Ok x) front keyed at = let same_key : x ≡ key = cc at in subst (λ (y : Key). IsShort (text_of y)) same_key (key_short r.head.target x (sym (heard r front).key ∙ keyed))
+    of r (Err fault) front keyed at = absurd (cc at)
+
+    by : (front : Front) → c.front ≡ front → key_in front ≡ Some key → IsShort (text_of key)
+    by NoHeadYet front at = absurd (cc at)
+    by (NoHead status) front at = absurd (cc at)
+    by (IsRequest r) front at = of r r.key front refl at
+
 -- ---- all
 
-pub turn_walk : Walk Turn
+pub turn_walk : WalkOf IsShort Turn
 turn_walk = record {
   clients = clients_turn;
   asks = asks_turn;
@@ -468,6 +507,7 @@ turn_begins e s is_new h = record {
   bodied = h.bodied;
   once = λ d i. once_by d (in_push d rest e i);
   made = h.made;
+  short = h.short;
 }
   where
     test : Exchange → Bool
@@ -506,9 +546,9 @@ turn_begins e s is_new h = record {
     goes_by d n (inl i) is = less.goes d n i is (λ none. cc none)
     goes_by d n (inr eq) is = subst (λ m. Goes d m s.clients) (sym (its_asker d n eq is)) (goes_as d e is_new.asker s.clients (ap (λ (x : Exchange). x.head) eq) is_new.goes)
 
-    once_by : (d : Exchange) → IsIn d rest ⊎ (d ≡ e) → IsOnce d
+    once_by : (d : Exchange) → IsIn d rest ⊎ (d ≡ e) → IsOfRequest d
     once_by d (inl i) = less.once d i
-    once_by d (inr eq) = subst IsOnce (sym eq) is_new.body
+    once_by d (inr eq) = subst IsOfRequest (sym eq) (record { key = is_new.key h.bodied; once = is_new.body })
 
     fresh_by : (d : Exchange) → IsIn d rest ⊎ (d ≡ e) → d.place ≡ None → d.asked ≡ 0
     fresh_by d (inl i) none = less.fresh d i none
@@ -529,6 +569,7 @@ turn_follows n id f request source v late there h = record {
   bodied = λ c i. bodied_by n f (λ d. (request d).body) c v.clients h.bodied (in_change (is_client n) f c v.clients i);
   once = h.once;
   made = λ c k i is. made_by n f (λ d. (request d).joins) c k v.clients v.next_instance h.made (in_change (is_client n) f c v.clients i) is;
+  short = h.short;
 }
   where
     source_by : (c : Client) (k : ℕ) → Changed (is_client n) f v.clients c → c.is_closing ≡ false → source_in c.stage ≡ Some k → IsIn k (map instance_id v.instances)

@@ -1,20 +1,16 @@
 -- The law: each state that a lawful log may go on as from is sound.
-use Rattle.std.proofs.Common.{◌≡◌, ◌⊎◌, refl, ℕ, Bool, true, false, ◌==◌, ◌||◌, ◌≤◌, List, [], ◌∷◌, count_by, map, find, length, Option, Some, None, inl, inr, sym, subst, ap, ◌∙◌, arith}
-use Rattle.pp_world.specs.Log.{Log}
+use Rattle.std.proofs.Common.{◌≡◌, ◌⊎◌, ℕ, true, false, ◌==◌, ◌||◌, ◌≤◌, List, [], ◌∷◌, count_by, map, find, length, Option, Some, None, inl, inr, sym, ap, ◌∙◌, arith}
 use Rattle.pp_pipe.specs.Authentication.{binds_connection}
 use Rattle.pp_law.specs.Closing.{is_of}
-use Rattle.pp_law.specs.Connections.{is_client}
 use Rattle.pp_law.specs.Lists.{is_this}
 use Rattle.pp_law.specs.Opening.{is_same_phase}
 use Rattle.pp_law.specs.Requests.{goes_alone, is_asked_once}
-use Rattle.pp_law.specs.Stages.{reply_of}
-use Rattle.pp_law.specs.State.{State, Term, Awaiting, Client, Exchange, Instance, Reply, Stage, Undecided, Waiting, Passing, Answering}
-use Rattle.pp_law.specs.Table.{instance}
+use Rattle.pp_law.specs.State.{State, Awaiting, Client, Exchange, Reply, Stage, Undecided, Waiting, Passing, Answering}
 use Rattle.pp_laws.specs.Numbers.{AreRising}
 use Rattle.pp_laws.specs.Runs.{IsIn}
 use Rattle.pp_laws.proofs.Lists.{in_map, one_of}
 use Rattle.pp_laws.proofs.Sound.{FactsOf, Sound, client_number, conn_number, exchange_number, facts_of as sound_facts, instance_id, source_in}
-use Rattle.pp_laws.proofs.Tests.{number_same, same_number}
+use Rattle.pp_laws.proofs.Tests.{same_number}
 use Rattle.pp_laws_bounds.proofs.Happenings.{from_now}
 use Rattle.pp_laws_asks.proofs.AsksFacts.{Asks}
 use Rattle.pp_laws_bounds.proofs.Kept.{FactsOf as KeptFacts, Stands, facts_of as kept_facts}
@@ -22,12 +18,11 @@ use Rattle.pp_laws_bounds.proofs.Small.{facts_of as small_facts}
 use Rattle.pp_laws_bounds.proofs.SmallHappenings.{IsSmall}
 use Rattle.pp_laws_bounds.proofs.Pigeons.{rise_differ}
 use Rattle.pp_laws_pool.proofs.View.{facts_of as pool_facts, view as pool_view}
-use Rattle.pp_obeys.specs.Obeys.{Obeys}
-use Rattle.pp_laws_turn.specs.SoundTurn.{AreToldApart, HasAsker, HasSource, IsAtRest, IsBounded, IsInLine, IsSoundTurn, TurnsAreSound}
+use Rattle.pp_laws_turn.specs.SoundTurn.{AreToldApart, HasAsker, HasSource, IsAtRest, IsInLine, TurnsAreSound}
 use Rattle.pp_laws_turn.proofs.Counts.{count_number, count_one, find_in, find_nothing, find_number}
 use Rattle.pp_laws_turn.proofs.Kept.{Turn}
 use Rattle.pp_laws_turn.proofs.Lifts.{asks_on, few_bodies_on, few_exchanges_on, few_pins_on, few_rows_on, kept_on, small_on, sound_on, turn_on}
-use Rattle.pp_laws_turn.proofs.View.{Goes, Holds, facts_of, joined_in, view}
+use Rattle.pp_laws_turn.proofs.View.{facts_of, joined_in, view}
 
 -- ---- numbers
 
@@ -137,13 +132,15 @@ sound_turns terms s log obeys = record {
   lined = λ e n going i is. in_line s e n (k.lined going e n i is);
   by_itself = λ k e i j at is. one_line e.number k.line (t.lined.alone k e i j at is) at;
   pipelines = t.lined.few;
-  bodies = λ e i left. alone_with e (t.once e i) left;
+  bodies = λ e i left. alone_with e (t.once e i).once left;
   made = λ c id plain i is. t.made c id i (ap joined_in is);
   once = asks_once s f.asks.rise t;
   sources = has_source s t;
   alone = asks_nothing s f.callers.rise t;
   rests = λ e i none. ap (λ n. n == 0) (t.fresh e i none);
   askers = has_asker s f.callers.rise t;
+  keyed = λ e i. (t.once e i).key;
+  short = t.short;
 }
   where
     so : Sound from_now s

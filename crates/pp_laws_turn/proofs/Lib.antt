@@ -1,6 +1,7 @@
 pub mod View
 pub mod Cases
 pub mod Bodies
+pub mod Keys
 pub mod Counts
 pub mod Lined
 pub mod Same

@@ -6,37 +6,36 @@ use Rattle.pp_world.specs.Log.{Log}
 use Rattle.pp_law.proofs.Prefixes.{front_from}
 use Rattle.pp_law.specs.Lawful.{Lawful}
 use Rattle.pp_law.specs.Opening.{is_at, is_same_phase}
-use Rattle.pp_law.specs.Phases.{behind, come_to, in_phase, is_done, next, phases}
+use Rattle.pp_law.specs.Phases.{behind, come_to, is_done, next, phases}
 use Rattle.pp_law.specs.Stages.{bound_of}
 use Rattle.pp_law.specs.State.{State, Term, Phase, Before, IsWoken, IsConfigured, IsRooted, IsListed, IsListening, IsStuck, Awaiting, Handling, Evicting, Keeping, Deciding, Following, Connecting, DecidingAgain, Bound, Client, Conn, Exchange, start}
 use Rattle.pp_law.specs.Table.{pin_of_client, pin_of_exchange}
 use Rattle.pp_laws.specs.Runs.{state_after, IsIn}
 use Rattle.pp_laws.proofs.Laws.{start-sound}
 use Rattle.pp_laws.proofs.Lists.{in_front}
-use Rattle.pp_laws.proofs.Sound.{Since, Sound, exchange_number, facts_of as sound_facts}
+use Rattle.pp_laws.proofs.Sound.{Sound, exchange_number, facts_of as sound_facts}
 use Rattle.pp_laws_asks.specs.Asks.{HasFewExchanges, HasFewWaiting, is_waiting}
 use Rattle.pp_laws_asks.proofs.AsksFacts.{Asks, asks_begins, asks_places, asks_walk}
 use Rattle.pp_laws_asks.proofs.AsksHappenings.{after-asks, start-asks}
 use Rattle.pp_laws_bounds.specs.Bounds.{HasFewBodies, HasFewPins, HasFewRows, belongs_to_row, has_place}
 use Rattle.pp_laws_bounds.proofs.Counts.{length-filter}
-use Rattle.pp_laws_bounds.proofs.Happenings.{after_all-kept, from_now}
+use Rattle.pp_laws_bounds.proofs.Happenings.{from_now}
 use Rattle.pp_laws_bounds.proofs.Kept.{Kept, Stands, facts_of as kept_facts}
 use Rattle.pp_laws_bounds.proofs.Laws.{start-kept, whole_kept}
 use Rattle.pp_laws_bounds.proofs.Pigeons.{count-more, length-made, pigeons, rise_differ}
 use Rattle.pp_laws_bounds.proofs.Small.{counts_as_bound, facts_of as small_facts, is_row}
 use Rattle.pp_laws_bounds.proofs.SmallDisk.{start-small}
 use Rattle.pp_laws_bounds.proofs.SmallHappenings.{IsSmall, after_all-small}
-use Rattle.pp_laws_bounds.proofs.SmallPieces.{plain}
 use Rattle.pp_laws_bounds.proofs.SmallSteps.{come_to-small}
 use Rattle.pp_laws_bounds.proofs.Steps.{come_to-kept}
-use Rattle.pp_laws_pool.proofs.Along.{Next, Steps, along}
+use Rattle.pp_laws_pool.proofs.Along.{Steps, along}
 use Rattle.pp_laws_pool.proofs.View.{Holds as PoolHolds, facts_of as pool_facts, holds as pool_holds}
 use Rattle.pp_laws_pool.proofs.WalkClients.{fill-keeps, give_up_asks-keeps}
 use Rattle.pp_laws_pool.proofs.WalkSteps.{drop_unseen-keeps, placing-keeps}
 use Rattle.pp_obeys.specs.Obeys.{AreDone, Obeys, phases_on}
 use Rattle.pp_obeys.proofs.Come.{IsDone, come-stopped, come_to-next, next-phase, onward}
 use Rattle.pp_obeys.proofs.Obeying.{log-good, obeys_good}
-use Rattle.pp_laws_turn.proofs.View.{Holds, facts_of}
+use Rattle.pp_laws_turn.proofs.View.{Holds}
 use Rattle.pp_laws_turn.proofs.Happenings.{after-turn, next-turn, start-turn}
 use Rattle.pp_laws_turn.proofs.Kept.{Turn}
 

@@ -1,6 +1,6 @@
 -- What is kept of the lines of connections: what goes alone has no other in its line, and a line has several only behind a response that
 -- shows that it may.
-use Rattle.std.proofs.Common.{◌≡◌, ◌⊎◌, refl, ℕ, ◌+◌, ◌<◌, ◌≤◌, nat_lt, Bool, true, false, not, ◌==◌, ◌&&◌, ◌||◌, if◌then◌else◌, List, [], ◌∷◌, ◌++◌, map, filter, find, length, Option, Some, None, option_and_then, option_map, unwrap_or, inl, inr, sym, subst, ap, ◌∙◌, le_refl, le_trans, lt_irrefl, arith}
+use Rattle.std.proofs.Common.{◌≡◌, ◌⊎◌, refl, ℕ, ◌+◌, ◌<◌, ◌≤◌, nat_lt, Bool, true, false, not, ◌==◌, ◌&&◌, ◌||◌, if◌then◌else◌, List, [], ◌∷◌, ◌++◌, map, filter, length, Option, Some, None, option_and_then, option_map, unwrap_or, inl, inr, sym, subst, ap, ◌∙◌, le_refl, le_trans, lt_irrefl, arith}
 use Rattle.std.specs.List.{list_any}
 use Rattle.pp_peers.specs.Peers.{Loaded}
 use Rattle.pp_peers.specs.Placing.{first_of, new_place, pipelined_place}
@@ -12,7 +12,7 @@ use Rattle.pp_law.specs.Lists.{is_some_with}
 use Rattle.pp_law.specs.Requests.{goes_alone}
 use Rattle.pp_law.specs.State.{State, Conn, Exchange}
 use Rattle.pp_laws.specs.Runs.{IsIn}
-use Rattle.pp_laws.proofs.Lists.{Changed, changed_at, in_append, in_change, in_filter, in_find, in_map, in_push, other, same}
+use Rattle.pp_laws.proofs.Lists.{Changed, changed_at, in_change, in_filter, in_find, in_map, in_push, other, same}
 use Rattle.pp_laws.proofs.Sound.{conn_number, exchange_number}
 use Rattle.pp_laws.proofs.Tests.{first_holds, same_number, second_holds}
 use Rattle.pp_laws_bounds.proofs.Peers.{Has, NewPlace, idle_there, lightest_there, new_by, piped_by}

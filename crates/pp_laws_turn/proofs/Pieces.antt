@@ -1,5 +1,5 @@
 -- The ends of responses and of connections keep what is kept by each change.
-use Rattle.std.proofs.Common.{◌≡◌, refl, ℕ, Bool, true, false, not, ◌&&◌, ◌||◌, le_refl, length, List, Option, Some, None}
+use Rattle.std.proofs.Common.{◌≡◌, refl, ℕ, Bool, true, false, not, ◌&&◌, ◌||◌, le_refl, length, Some, None}
 use Rattle.pp_head.specs.Response.{Response}
 use Rattle.pp_pass.specs.Pipe.{finished}
 use Rattle.pp_reply.specs.Keeping.{is_old}
@@ -7,17 +7,17 @@ use Rattle.pp_law.specs.Connections.{conn, on_conn, front_of_line, close_conn, e
 use Rattle.pp_law.specs.Passing.{pour}
 use Rattle.pp_law.specs.Responses.{skipping, skip_body, rested, close_this, may_go_on, finish, bad_response, bad_head, is_whole_at_end, finish_first, ended}
 use Rattle.pp_law.specs.State.{State, Answer, Conn, Exchange}
-use Rattle.pp_laws_turn.proofs.View.{View, Walk, Holds, holds, facts_of, view, Lesser}
+use Rattle.pp_laws_turn.proofs.View.{View, Holds, Lesser, OfKeys, WalkOf}
 use Rattle.pp_laws_turn.proofs.Cases.{by_aim_of, each_of, when}
 use Rattle.pp_laws_turn.proofs.Clients.{pour-keeps}
 use Rattle.pp_laws_turn.proofs.Closings.{close_conn-keeps}
 use Rattle.pp_laws_turn.proofs.Exchanges.{end_exchange-keeps, fail-keeps, lose_attempt-keeps, on_client_of-keeps, on_conn-keeps, same_parts}
 
-pub skip_body-keeps : {P : View → Type 0} (w : Walk P) (e : Exchange) (s : State) → Holds P s → Holds P (skip_body e s)
+pub skip_body-keeps : {K : OfKeys} {P : View → Type 0} (w : WalkOf K P) (e : Exchange) (s : State) → Holds P s → Holds P (skip_body e s)
 unfolding skip_body
 skip_body-keeps w e s h = by_aim_of e.aim (on_client_of-keeps w e skipping s (λ c. same_parts _ c refl refl refl refl refl (λ is. refl)) h) h (λ v from to. h)
 
-pub close_this-keeps : {P : View → Type 0} (w : Walk P) (n : ℕ) (s : State) → Holds P s → Holds P (close_this n s)
+pub close_this-keeps : {K : OfKeys} {P : View → Type 0} (w : WalkOf K P) (n : ℕ) (s : State) → Holds P s → Holds P (close_this n s)
 unfolding close_this
 close_this-keeps w n s h = each_of (conn s n) h (λ k. close_conn-keeps w true k s h)
 
@@ -29,21 +29,21 @@ lesser_rested head k = record { number = refl; within = λ n i. i; shorter = le_
     neither false b is = refl
 
 -- the exchange is over, and its answer is
-pub done-keeps : {P : View → Type 0} (w : Walk P) (k : Conn) (e : Exchange) (a : Answer) (s : State) → Holds P s
+pub done-keeps : {K : OfKeys} {P : View → Type 0} (w : WalkOf K P) (k : Conn) (e : Exchange) (a : Answer) (s : State) → Holds P s
     → Holds P (on_conn k.number (rested a.head) (end_exchange e.number (skip_body e (pour e finished s))))
 done-keeps w k e a s h = on_conn-keeps w k.number (rested a.head) _ (lesser_rested a.head) (end_exchange-keeps w e.number _ (skip_body-keeps w e _ (pour-keeps w e finished s h)))
 
-pub finish-keeps : {P : View → Type 0} (w : Walk P) (k : Conn) (e : Exchange) (a : Answer) (s : State) → Holds P s → Holds P (finish k e a s)
+pub finish-keeps : {K : OfKeys} {P : View → Type 0} (w : WalkOf K P) (k : Conn) (e : Exchange) (a : Answer) (s : State) → Holds P s → Holds P (finish k e a s)
 unfolding finish
 finish-keeps w k e a s h = when (may_go_on e a.head) (done-keeps w k e a s h) (close_this-keeps w k.number _ (done-keeps w k e a s h))
 
-pub bad_response-keeps : {P : View → Type 0} (w : Walk P) (k : Conn) (s : State) → Holds P s → Holds P (bad_response k s)
+pub bad_response-keeps : {K : OfKeys} {P : View → Type 0} (w : WalkOf K P) (k : Conn) (s : State) → Holds P s → Holds P (bad_response k s)
 unfolding bad_response
 bad_response-keeps w k s h =
     each_of (front_of_line s k) (close_conn-keeps w false k s h)
     (λ e. close_conn-keeps w false k _ (end_exchange-keeps w e.number _ (fail-keeps w e s h)))
 
-pub bad_head-keeps : {P : View → Type 0} (w : Walk P) (k : Conn) (s : State) → Holds P s → Holds P (bad_head k s)
+pub bad_head-keeps : {K : OfKeys} {P : View → Type 0} (w : WalkOf K P) (k : Conn) (s : State) → Holds P s → Holds P (bad_head k s)
 unfolding bad_head
 bad_head-keeps {P} w k s h = by k.has_brought
   where
@@ -56,11 +56,11 @@ bad_head-keeps {P} w k s h = by k.has_brought
 
 -- ---- the end of a connection
 
-finish_first-keeps : {P : View → Type 0} (w : Walk P) (k : Conn) (a : Answer) (s : State) → Holds P s → Holds P (finish_first k a s)
+finish_first-keeps : {K : OfKeys} {P : View → Type 0} (w : WalkOf K P) (k : Conn) (a : Answer) (s : State) → Holds P s → Holds P (finish_first k a s)
 unfolding finish_first
 finish_first-keeps w k a s h = each_of (front_of_line s k) h (λ e. finish-keeps w k e a s h)
 
-pub ended-keeps : {P : View → Type 0} (w : Walk P) (is_clean : Bool) (k : Conn) (s : State) → Holds P s → Holds P (ended is_clean k s)
+pub ended-keeps : {K : OfKeys} {P : View → Type 0} (w : WalkOf K P) (is_clean : Bool) (k : Conn) (s : State) → Holds P s → Holds P (ended is_clean k s)
 unfolding ended
 ended-keeps w is_clean k s h =
     each_of k.answer (close_conn-keeps w true k s h) (λ a. when (is_clean && is_whole_at_end a) (close_this-keeps w k.number _ (finish_first-keeps w k a s h)) (close_conn-keeps w true k s h))

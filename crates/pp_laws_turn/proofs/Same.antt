@@ -1,12 +1,12 @@
 -- What is done to a client leaves it at its request, and it follows nothing else.
-use Rattle.std.proofs.Common.{◌≡◌, refl, ℕ, ◌+◌, ◌-◌, Bool, true, false, not, ◌==◌, ◌&&◌, nat_le, [], ◌++◌, drop, length, Option, Some, None, sym, ap, ◌∙◌}
+use Rattle.std.proofs.Common.{◌≡◌, refl, ℕ, ◌+◌, ◌-◌, Bool, true, false, not, ◌&&◌, nat_le, [], ◌++◌, drop, length, Option, Some, None, sym, ap, ◌∙◌}
 use Rattle.pp_pass.specs.Pipe.{without_first}
 use Rattle.pp_reply.specs.Keeping.{is_end_known}
 use Rattle.pp_text.specs.Bytes.{is_empty}
 use Rattle.pp_world.specs.declared.note.Decision.TheVariants.{Pass}
 use Rattle.pp_world.specs.declared.note.Decision.{Decision}
 use Rattle.pp_law.specs.Deciding.{refused_with, asking_with, reply_by, answering_with}
-use Rattle.pp_law.specs.Hearing.{what_counts, fronted, with_front, heard_by}
+use Rattle.pp_law.specs.Hearing.{what_counts, fronted, heard_by}
 use Rattle.pp_law.specs.Lists.{Bytes}
 use Rattle.pp_law.specs.Connections.{anew}
 use Rattle.pp_law.specs.Replies.{passed_reply, begun_passed, may_begin, begun_reply, begun_instance, begun_decided, begun_by, begun_at_end, said_of_body, said_of, said_by, is_regained, regained_by}

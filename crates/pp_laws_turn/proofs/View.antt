@@ -1,11 +1,13 @@
 -- What the laws of a turn speak of, and which changes of it have to keep such a law, so that each step of the law keeps it.
-use Rattle.std.proofs.Common.{◌≡◌, ◌⊎◌, ℕ, ◌<◌, ◌≤◌, Bool, true, false, List, [], ◌∷◌, ◌++◌, map, filter, length, Option, Some, None}
+use Rattle.std.proofs.Common.{◌≡◌, ◌⊎◌, ℕ, ◌<◌, ◌≤◌, Bool, true, false, List, [], ◌∷◌, ◌++◌, map, filter, length, Option, Some, None, Ok}
+use Rattle.std.specs.Prelude.{⊤}
 use Rattle.pp_law.specs.Closing.{exchanges_of, is_of, leave_one, left_alone}
 use Rattle.pp_law.specs.Connections.{each_exchange, is_client, on_client, put_on}
 use Rattle.pp_law.specs.Deciding.{begin_exchange}
-use Rattle.pp_law.specs.Lists.{change}
+use Rattle.pp_law.specs.Lists.{Bytes, change}
 use Rattle.pp_law.specs.Requests.{Parsed, IsRequest, goes_alone, is_asked_once}
 use Rattle.pp_law.specs.State.{State, Brought, Joins, Client, Conn, Exchange, Instance, Owed, Phase, Keeping, Deciding, Following, Connecting, DecidingAgain}
+use Rattle.pp_target.specs.Key.{key_at}
 use Rattle.pp_laws.specs.Runs.{IsIn}
 use Rattle.pp_laws.proofs.Sound.{instance_id, source_in}
 
@@ -39,9 +41,14 @@ facts_of (holds facts) = facts
 
 -- ---- clients
 
--- a request of which a body is left is asked once
-abbrev pub IsBodied : Client → Type 0
-IsBodied c = (r : Parsed) → c.front ≡ IsRequest r → (c.body_left ≡ 0) ⊎ (is_asked_once r.head ≡ true)
+-- a request of which so much of a body is left: its key is that of its target, and where any is left, it is asked once
+pub record IsHeardAs (left : ℕ) (r : Parsed) : Type 0 where
+  pub key : r.key ≡ key_at r.head.target
+  pub once : (left ≡ 0) ⊎ (is_asked_once r.head ≡ true)
+
+-- so its request was heard
+abbrev pub IsHeard : Client → Type 0
+IsHeard c = (r : Parsed) → c.front ≡ IsRequest r → IsHeardAs c.body_left r
 
 -- the row that its exchange joined
 abbrev pub joined_in : Brought → Option ℕ
@@ -54,7 +61,7 @@ pub record SameClient (d c : Client) : Type 0 where
   pub closing : d.is_closing ≡ c.is_closing
   pub source : (id : ℕ) → source_in d.stage ≡ Some id → source_in c.stage ≡ Some id
   pub request : (r : Parsed) → c.front ≡ IsRequest r → d.front ≡ IsRequest r
-  pub body : IsBodied c → IsBodied d
+  pub body : IsHeard c → IsHeard d
   pub joins : (id : ℕ) → joined_in d.brought ≡ Some id → joined_in c.brought ≡ Some id
 
 -- its request leaves its exchange, and it follows nothing
@@ -62,7 +69,7 @@ pub record MovesOn (d c : Client) : Type 0 where
   pub number : d.number ≡ c.number
   pub closing : d.is_closing ≡ c.is_closing
   pub source : source_in d.stage ≡ None
-  pub body : IsBodied d
+  pub body : IsHeard d
   pub joins : joined_in d.brought ≡ None
 
 -- it goes on at the same request
@@ -70,7 +77,7 @@ pub record SameRequest (d c : Client) : Type 0 where
   pub number : d.number ≡ c.number
   pub closing : d.is_closing ≡ c.is_closing
   pub request : (r : Parsed) → c.front ≡ IsRequest r → d.front ≡ IsRequest r
-  pub body : IsBodied c → IsBodied d
+  pub body : IsHeard c → IsHeard d
   pub joins : (id : ℕ) → joined_in d.brought ≡ Some id → joined_in c.brought ≡ Some id
 
 -- ---- exchanges
@@ -104,6 +111,8 @@ pub record IsNew (e : Exchange) (clients : List Client) (next : ℕ) : Type 0 wh
   pub place : e.place ≡ None
   pub asked : e.asked ≡ 0
   pub body : (e.body_left ≡ 0) ⊎ (is_asked_once e.head ≡ true)
+  -- its key is that of its request, as each request was heard
+  pub key : ((c : Client) → IsIn c clients → IsHeard c) → key_at e.head.target ≡ Ok e.key
   pub asker : ℕ
   pub is : e.asker ≡ Some asker
   pub goes : Goes e asker clients
@@ -135,11 +144,22 @@ pub record FromRow (ys : List Instance) (x : Instance) : Type 0 where
 abbrev pub IsFollowed : ℕ → List Client → Type 0
 IsFollowed id clients = (c : Client) × IsIn c clients × (c.is_closing ≡ false) × (source_in c.stage ≡ Some id)
 
--- instances as they were, or with the number that is next; and those that are followed are still there
-pub record RowsFrom (v : View) (xs : List Instance) (next : ℕ) : Type 0 where
+-- what holds of the key of each that is made; and what holds of any
+abbrev pub OfKeys : Type 1
+OfKeys = Bytes → Type 0
+
+abbrev pub AnyKey : OfKeys
+AnyKey key = ⊤
+
+-- instances as they were, or with the number that is next, and a key of which that holds; and those that are followed are still there
+pub record RowsFromOf (K : OfKeys) (v : View) (xs : List Instance) (next : ℕ) : Type 0 where
   pub grows : v.next_instance ≤ next
   pub from : (x : Instance) → IsIn x xs → FromRow v.instances x ⊎ ((x.id ≡ v.next_instance) × (x.id < next))
   pub kept : (id : ℕ) → IsFollowed id v.clients → IsIn id (map instance_id v.instances) → IsIn id (map instance_id xs)
+  pub keys : (x : Instance) → IsIn x xs → FromRow v.instances x ⊎ K x.key
+
+abbrev pub RowsFrom : View → List Instance → ℕ → Type 0
+RowsFrom v xs next = RowsFromOf AnyKey v xs next
 
 -- ---- the changes that steps are made of
 
@@ -152,20 +172,26 @@ is_late Connecting = true
 is_late DecidingAgain = true
 is_late phase = false
 
-abbrev pub KeepsRows : (View → Type 0) → Type 0
-KeepsRows P = (xs : List Instance) (next : ℕ) (v : View) → RowsFrom v xs next → P v → P (record v { instances = xs; next_instance = next })
+abbrev pub KeepsRowsOf : OfKeys → (View → Type 0) → Type 0
+KeepsRowsOf K P = (xs : List Instance) (next : ℕ) (v : View) → RowsFromOf K v xs next → P v → P (record v { instances = xs; next_instance = next })
 
-pub record Walk (P : View → Type 0) : Type 0 where
+abbrev pub KeepsRows : (View → Type 0) → Type 0
+KeepsRows P = KeepsRowsOf AnyKey P
+
+pub record WalkOf (K : OfKeys) (P : View → Type 0) : Type 0 where
   pub clients : (f : Client → Client) → ((c : Client) → SameClient (f c) c) → (v : View) → P v → P (record v { clients = map f v.clients })
   pub asks : (f : Exchange → Exchange) → (v : View) → ((e : Exchange) → IsIn e v.exchanges → SameAsk (f e) e) → P v → P (record v { exchanges = map f v.exchanges })
   pub left : (test : Exchange → Bool) → (v : View) → P v → P (record v { exchanges = change test left_alone v.exchanges })
   pub over : (test : Exchange → Bool) → (v : View) → P v → P (record v { exchanges = filter test v.exchanges })
   pub conns : (f : Conn → Conn) → ((k : Conn) → Lesser (f k) k) → (v : View) → P v → P (record v { conns = map f v.conns })
-  pub rows : KeepsRows P
+  pub rows : KeepsRowsOf K P
   pub leaves : (n : ℕ) (f : Client → Client) → ((c : Client) → MovesOn (f c) c) → (v : View) → P v → P (record v { clients = change (is_client n) f v.clients; exchanges = change (is_of n) left_alone v.exchanges })
-  pub closes : (n : ℕ) (f : Client → Client) → ((c : Client) → (f c).number ≡ c.number) → ((c : Client) → (f c).is_closing ≡ true) → ((c : Client) → IsBodied c → IsBodied (f c)) → ((c : Client) → (f c).brought ≡ c.brought) → (s : State) → P (view s) → P (view (each_exchange leave_one (exchanges_of n s) (on_client n f s)))
+  pub closes : (n : ℕ) (f : Client → Client) → ((c : Client) → (f c).number ≡ c.number) → ((c : Client) → (f c).is_closing ≡ true) → ((c : Client) → IsHeard c → IsHeard (f c)) → ((c : Client) → (f c).brought ≡ c.brought) → (s : State) → P (view s) → P (view (each_exchange leave_one (exchanges_of n s) (on_client n f s)))
   -- what the exchange of a request brought, into a row that is there
   pub tells : (test : Client → Bool) (b : Brought) (v : View) → ((id : ℕ) → joined_in b ≡ Some id → IsIn id (map instance_id v.instances)) → P v → P (record v { clients = change test (λ c. record c { brought = b }) v.clients })
+
+abbrev pub Walk : (View → Type 0) → Type 0
+Walk P = WalkOf AnyKey P
 
 -- an exchange begins, and a client follows a row, in a phase in which nothing new leaves
 abbrev pub Begins : (View → Type 0) → Type 0

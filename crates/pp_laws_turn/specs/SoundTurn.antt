@@ -1,6 +1,6 @@
 -- What holds in each state that a lawful log may go on as from, also amid a turn, where phases are done that no happening shows. What is
 -- not marked is ours.
-use Rattle.std.specs.Prelude.{◌≡◌, ℕ, ◌+◌, ◌<◌, ◌≤◌, ◌==◌, Bool, true, false, [], ◌∷◌, count_by, find, length, List, Some, None}
+use Rattle.std.specs.Prelude.{◌≡◌, ℕ, ◌<◌, ◌≤◌, ◌==◌, Bool, true, false, [], ◌∷◌, count_by, find, length, List, Some, None, Ok}
 use Rattle.pp_law.specs.Closing.{is_of}
 use Rattle.pp_law.specs.Connections.{client, is_client, is_conn, is_exchange}
 use Rattle.pp_law.specs.Lists.{Bytes}
@@ -9,6 +9,7 @@ use Rattle.pp_law.specs.Requests.{Parsed, IsRequest, goes_alone}
 use Rattle.pp_law.specs.Stages.{reply_of}
 use Rattle.pp_law.specs.State.{State, Term, Joins, Client, Conn, Exchange, Instance, Reply, Awaiting, Handling, Free}
 use Rattle.pp_law.specs.Table.{instance, is_instance, is_row_of}
+use Rattle.pp_target.specs.Key.{key_at}
 use Rattle.pp_world.specs.Log.{Log}
 use Rattle.pp_laws.specs.Numbers.{HasOwnNumbers}
 use Rattle.pp_laws.specs.Runs.{IsIn}
@@ -106,6 +107,10 @@ pub record IsSoundTurn (s : State) : Type 0 where
   pub rests : (e : Exchange) → IsIn e s.exchanges → e.place ≡ None → (e.asked == 0) ≡ true
   -- an exchange that is somebody's is for a client that goes on, at the request that it was begun for
   pub askers : (e : Exchange) (n : ℕ) → IsIn e s.exchanges → e.asker ≡ Some n → HasAsker s e n
+  -- and somebody's or not, its key is that of the target of that request (RFC 2616, section 5.1.2)
+  pub keyed : (e : Exchange) → IsIn e s.exchanges → key_at e.head.target ≡ Ok e.key
+  -- so the key of each instance has 8,192 bytes at most
+  pub short : (x : Instance) → IsIn x s.instances → length x.key ≤ 8192
 
 abbrev pub TurnsAreSound : Type 0
 TurnsAreSound = (terms : List Term) (s : State) (log : Log) → Obeys terms s log → IsSoundTurn s

@@ -301,7 +301,7 @@ weaker : {R : Like} (s : State) → Holds R s → Holds false s
 weaker s h = holds (less s.instances s.entries s.agenda.todo s.agenda.todo s.chunks s.next_instance (all_left s.agenda.todo (facts_of h).last) (λ on. absurd (let both : false ≡ true = on in cc both)) (facts_of h))
 
 -- where nothing is on its way to the disk
-stiller : (s : State) → s.agenda.todo ≡ [] → Holds false s → Holds true s
+pub stiller : (s : State) → s.agenda.todo ≡ [] → Holds false s → Holds true s
 stiller s none h = holds (less s.instances s.entries s.agenda.todo s.agenda.todo s.chunks s.next_instance (all_left s.agenda.todo (facts_of h).last) (λ on. none) (facts_of h))
 
 woke_rising : (s : State) (image : Files) → IsPermitted s (Woke image) → is_rising (map (λ file. file.0) image) ≡ true

@@ -66,7 +66,7 @@ begins terms = holds (record {
   chunks_given = λ c i. absurd i;
 })
 
-obeys-keeps : (terms : List Term) (s : State) (log : Log) → Obeys terms s log → Holds false s
+pub obeys-keeps : (terms : List Term) (s : State) (log : Log) → Obeys terms s log → Holds false s
 obeys-keeps terms s log obeys =
     subst (λ (t : State). Holds false t) obeys.goes.there
     (on-keeps obeys.goes.phases _ (all-keeps (start terms) log obeys.lawful (record { good = log-good terms [] tt; sound = start-sound since terms refl; inv = start_inv terms; held = begins terms })).held)

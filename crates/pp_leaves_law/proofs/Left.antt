@@ -38,9 +38,9 @@ use Rattle.pp_state.specs.Ends.{AreInOrder, Parts, numbers_of, parts}
 use Rattle.pp_steps.specs.Evicting.{all_victims, evicted_note, evicted_notes, forgotten_notes, leaving_chunks, leaving_notes, left_memory, without_all}
 use Rattle.pp_state.specs.Pins.{pins}
 use Rattle.pp_state.specs.declared.state.State.{State as Steps}
-use Rattle.pp_steps_law.proofs.Told.{are_told_on}
-use Rattle.pp_steps_law.specs.Steps.{ShowsSteps, whole}
-use Rattle.pp_steps_law.specs.Told.{AreTold}
+use Rattle.pp_states_law.proofs.Told.{are_told_on}
+use Rattle.pp_states_law.specs.Steps.{ShowsSteps, whole}
+use Rattle.pp_states_law.specs.Told.{AreTold}
 use Rattle.pp_text.specs.Bytes.{is_empty}
 use Rattle.pp_world.specs.Log.{Log}
 use Rattle.pp_world.specs.declared.happening.Happening.{Happening}

@@ -35,9 +35,9 @@ use Rattle.pp_seats_law.specs.Seats.{ShowsSeat}
 use Rattle.pp_seats_law.specs.Words.{HasSource, ShowsNext}
 use Rattle.pp_state.specs.Ends.{Parts, parts}
 use Rattle.pp_state.specs.Pins.{busy_row, chunk_at, exchanges_of, pin_of_entry, pin_of_next, pin_of_seat, pin_of_span}
-use Rattle.pp_steps_law.proofs.Told.{told_of}
-use Rattle.pp_steps_law.specs.Steps.{ShowsSteps}
-use Rattle.pp_steps_law.specs.Told.{IsTold, IsToldBy}
+use Rattle.pp_states_law.proofs.Told.{told_of}
+use Rattle.pp_states_law.specs.Steps.{ShowsSteps}
+use Rattle.pp_states_law.specs.Told.{IsTold, IsToldBy}
 use Rattle.pp_leaves_law.specs.Pinned.{AreNear, BusyIsTheLaws, PinnedIsTheLaws}
 
 -- ---- any of what is gathered

@@ -15,7 +15,7 @@ use Rattle.pp_state.specs.Ends.{parts}
 use Rattle.pp_steps.specs.Evicting.{leaving_notes, left_memory}
 use Rattle.pp_state.specs.Pins.{pins}
 use Rattle.pp_state.specs.declared.state.State.{State as Steps}
-use Rattle.pp_steps_law.specs.Steps.{ShowsSteps}
+use Rattle.pp_states_law.specs.Steps.{ShowsSteps}
 
 -- rows and chunks leave memory: the same rows are to be noted, the marks are the law's, and the same chunks are pinned
 pub record AreLeaving (number : ℕ → ℕ) (name : Bytes) (l : Leaving) (peers : List Peer) (st : Steps) (s : State) : Type 0 where

@@ -12,7 +12,7 @@ use Rattle.pp_seats.specs.declared.seat.Seat.{Seat}
 use Rattle.pp_state.specs.Ends.{parts}
 use Rattle.pp_state.specs.Pins.{busy_row, busy_rows, exchanges_of, pin_of_entry, pin_of_seat, pins}
 use Rattle.pp_state.specs.declared.state.State.{State as Steps}
-use Rattle.pp_steps_law.specs.Steps.{OfSteps}
+use Rattle.pp_states_law.specs.Steps.{OfSteps}
 
 -- the next byte of each client is in a chunk that the pool can number
 abbrev pub AreNear : List Seat → Type 0

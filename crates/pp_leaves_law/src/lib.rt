@@ -1,6 +1,6 @@
 //! What leaves memory, and what is noted of it, is what the law permits.
 //!
-//! Where the state of the program shows that of the law (`pp_steps_law`), the rows that exchanges are bound to and the chunks in which
+//! Where the state of the program shows that of the law (`pp_states_law`), the rows that exchanges are bound to and the chunks in which
 //! a next byte lies are the same in both (`specs/Pinned.antt`). From it follows that the notes of rows that left for others, and of
 //! chunks that go down to the low mark, are permitted one behind the other, where they lead, that the state there is shown by the
 //! program's, and that no more has to go.

@@ -4,6 +4,7 @@ use Rattle.std.specs.Prelude.{count_by}
 use Rattle.std.specs.List.{find}
 use Rattle.std.proofs.lemmas.List.{drop-drop, drop-take, take-take}
 use Rattle.pp_answers.specs.FinalHeads.{AnswersAsk, answer_to, roomed_by}
+use Rattle.pp_cache.specs.Bounds.{IsBounded}
 use Rattle.pp_desk.specs.Calls.{Found}
 use Rattle.pp_desk.specs.Closings.{KeepsDesk, Sides, sides}
 use Rattle.pp_desk.specs.declared.desk.Desk.{Desk}
@@ -102,10 +103,10 @@ data_then made k old mid new delivers rest is keeps = record {
 
 -- a step that was told, and what is left behind it
 step_on : (p : Option Peer) (shelf : KeptMap) (k : ℕ) (here : Remains) (told : ℕ × Step) (answer : Option (ℕ × Step)) (fed : List Peer) (old next : Both) (behind : Option Remains) → answer ≡ Some told → IsFedOn p k here.bytes answer old.peers fed
-    → TakesStep told.1 shelf k here.came (record old { peers = fed }) next → behind ≡ left_behind told.0 told.1 here → IsStepOn p shelf k here old next behind
-step_on None shelf k here told answer fed old next behind is feeds takes leaves = absurd (subst (λ (a : Option (ℕ × Step)). IsFedOn None k here.bytes a old.peers fed) is feeds)
-step_on (Some peer) shelf k here told answer fed old next behind is feeds takes leaves =
-    record { told = told; fed = fed; feeds = subst (λ (a : Option (ℕ × Step)). IsFedOn (Some peer) k here.bytes a old.peers fed) is feeds; takes = takes; leaves = leaves }
+    → TakesStep told.1 shelf k here.came (record old { peers = fed }) next → IsBounded next.state.cache → behind ≡ left_behind told.0 told.1 here → IsStepOn p shelf k here old next behind
+step_on None shelf k here told answer fed old next behind is feeds takes bounded leaves = absurd (subst (λ (a : Option (ℕ × Step)). IsFedOn None k here.bytes a old.peers fed) is feeds)
+step_on (Some peer) shelf k here told answer fed old next behind is feeds takes bounded leaves =
+    record { told = told; fed = fed; feeds = subst (λ (a : Option (ℕ × Step)). IsFedOn (Some peer) k here.bytes a old.peers fed) is feeds; takes = takes; leaves = leaves; bounded = bounded }
 
 left_is : (xs : List ℕ) (at n used : ℕ) (came now : List ℕ) → at + used ≤ n → now ≡ came → Some (remaining (slice_range xs (at + used) n) now) ≡ Some (remaining (drop used (slice_range xs at n)) came)
 left_is xs at n used came now within same = ap (λ (ys : List ℕ). Some (remaining (slice_range xs (at + used) n) ys)) same ∙ ap (λ (ys : List ℕ). Some (remaining ys came)) (sym (bytes_behind xs at n used within))
@@ -130,12 +131,12 @@ body_fits (Some peer) k xs at n used from to old new fed =
 
 -- a step behind which the read goes on
 pub step_goes_on : (p : Option Peer) (shelf : KeptMap) (k : ℕ) (xs : List ℕ) (at n used : ℕ) (step : Step) (answer : Option (ℕ × Step)) (fed : List Peer) (old next : Both) (came next_came now : List ℕ) → at ≤ n → answer ≡ Some (used, step)
-    → IsFedOn p k (slice_range xs at n) answer old.peers fed → TakesStep step shelf k came (record old { peers = fed }) next
+    → IsFedOn p k (slice_range xs at n) answer old.peers fed → TakesStep step shelf k came (record old { peers = fed }) next → IsBounded next.state.cache
     → Some (remaining (drop used (slice_range xs at n)) next_came) ≡ left_behind used step (remaining (slice_range xs at n) came) → now ≡ next_came
     → IsStepOn p shelf k (remaining (slice_range xs at n) came) old next (Some (remaining (slice_range xs (at + used) n) now))
-step_goes_on p shelf k xs at n used step answer fed old next came next_came now within is feeds takes left same =
+step_goes_on p shelf k xs at n used step answer fed old next came next_came now within is feeds takes bounded left same =
     let told : IsFedOn p k (slice_range xs at n) (Some (used, step)) old.peers fed = subst (λ (a : Option (ℕ × Step)). IsFedOn p k (slice_range xs at n) a old.peers fed) is feeds in
-    step_on p shelf k (remaining (slice_range xs at n) came) (used, step) answer fed old next (Some (remaining (slice_range xs (at + used) n) now)) is feeds takes
+    step_on p shelf k (remaining (slice_range xs at n) came) (used, step) answer fed old next (Some (remaining (slice_range xs (at + used) n) now)) is feeds takes bounded
     (left_is xs at n used next_came now (used_within p k xs at n (used, step) old.peers fed within told) same ∙ left)
 
 -- ---- a head

@@ -3,6 +3,7 @@
 use Rattle.std.specs.Prelude.{◌≡◌, ◌≤◌, ◌&&◌, ℕ, zero, suc, Bool, true, false, if◌then◌else◌, nat_lt, min, IfOk, IfSome, List, [], ◌∷◌, ◌++◌, length, drop, take, slice_range, is_some, Option, Some, None, option_and_then, Ok, Err}
 use Rattle.std.specs.List.{find}
 use Rattle.pp_answers.specs.FinalHeads.{AnswersAsk, answer_to, roomed_by}
+use Rattle.pp_cache.specs.Bounds.{IsBounded}
 use Rattle.pp_desk.specs.Calls.{Found, read_log}
 use Rattle.pp_desk.specs.Closings.{Sides}
 use Rattle.pp_desk.specs.Replies.{EndsReplies}
@@ -109,6 +110,8 @@ pub record Answers (k number : ℕ) (old new : Both) : Type 0 where
 pub record AnswersBeside (shelf : KeptMap) (k number : ℕ) (old new : Both) : Type 0 where
   pub beside : State
   pub row : HasRowFor shelf (key_of number old.state.flow) old.state beside
+  -- as each cache is
+  pub bounded : IsBounded beside.cache
   pub answers : Answers k number (record old { state = beside }) new
 
 abbrev pub HeadCameFor : Option ℕ → KeptMap → ℕ → Both → Both → Type 0
@@ -170,6 +173,8 @@ pub record IsStep (shelf : KeptMap) (k : ℕ) (peer : Peer) (here : Remains) (ol
   pub feeds : IsFedTo k peer here.bytes told old.peers fed
   pub takes : TakesStep told.1 shelf k here.came (record old { peers = fed }) new
   pub leaves : behind ≡ left_behind told.0 told.1 here
+  -- as each cache is
+  pub bounded : IsBounded new.state.cache
 
 abbrev pub IsStepOn : Option Peer → KeptMap → ℕ → Remains → Both → Both → Option Remains → Type 0
 IsStepOn None shelf k here old new behind = (new ≡ old) × (behind ≡ None)

@@ -1,6 +1,7 @@
 // Step 1: what one read of an origin brings, one step of its pipe behind the other (RFC 2616, sections 4.4, 6, 8.1 and 10.1).
 ghost use Rattle.std.specs.Prelude.{◌≡◌, ◌+◌, ◌-◌, ◌≤◌, [], ◌++◌, length, is_some, option_map, slice_range, take, vec_capacity, IfSome};
 ghost use Rattle.std.specs.List.{find};
+ghost use Rattle.pp_cache.specs.Bounds.{IsBounded};
 ghost use Rattle.pp_peers.specs.Peers.{is_number};
 ghost use Rattle.pp_origins.specs.Gots.{Answers, DataCame, DataCameThen, HasGot, HeadCame, IsFedOn, IsStepOn, IsTaken, both, going_on, head_on, remaining, staying};
 ghost use Rattle.pp_origins.specs.Responses.{bad_response, response_whole};
@@ -32,7 +33,9 @@ pub(crate) fn bytes_came(desk: &mut Desk, shelf: &Shelf, k: u64, n: usize)
     desk.data.clear();
     let mut at: usize = 0;
     for _step in 0..STEPS {
-        match step_came(desk, shelf, k, at, n) {
+        let step = step_came(desk, shelf, k, at, n);
+        desk.state.cache.bounds();
+        match step {
             None => return,
             Some(next) => at = next,
         }
@@ -40,11 +43,12 @@ pub(crate) fn bytes_came(desk: &mut Desk, shelf: &Shelf, k: u64, n: usize)
     desk.state.is_astray = true;
 }
 
-/// One step of what was read, from one place up to another. Where the next one begins, and None where it is the last.
+/// One step of what was read, from one place up to another. Where the next one begins, and None where it is the last. What it
+/// does is told with the cache that it leaves, which is bounded, as each is.
 fn step_came(desk: &mut Desk, shelf: &Shelf, k: u64, at: usize, n: usize) -> Option<usize>
     requires within { at ≤ n }
     requires there { n ≤ length desk.old.buffer.items }
-    ensures is { AreSeated desk.old.state → length desk.old.«data».items + (n - at) ≤ vec_capacity desk.old.«data» → IsStepOn (going_on (find (is_number k) desk.old.peers)) shelf.now k (remaining (slice_range desk.old.buffer.items at n) desk.old.«data».items) (both desk.old) (both desk.new) (option_map (λ next. remaining (slice_range desk.old.buffer.items next n) desk.new.«data».items) result) }
+    ensures is { AreSeated desk.old.state → IsBounded desk.new.state.cache → length desk.old.«data».items + (n - at) ≤ vec_capacity desk.old.«data» → IsStepOn (going_on (find (is_number k) desk.old.peers)) shelf.now k (remaining (slice_range desk.old.buffer.items at n) desk.old.«data».items) (both desk.old) (both desk.new) (option_map (λ next. remaining (slice_range desk.old.buffer.items next n) desk.new.«data».items) result) }
     ensures fits { length desk.old.«data».items + (n - at) ≤ vec_capacity desk.old.«data» → IfSome result (λ next. length desk.new.«data».items + (n - next) ≤ vec_capacity desk.new.«data») }
     ensures within { IfSome result (λ next. next ≤ n) }
     ensures numbers { numbers_of desk.new.state.seats.items ≡ numbers_of desk.old.state.seats.items }
@@ -143,6 +147,7 @@ fn head_came(desk: &mut Desk, shelf: &Shelf, k: u64)
         return bad_response(desk, k);
     };
     bring_row_for(&mut desk.state, shelf, number);
+    desk.state.cache.bounds();
     answer(desk, k, number);
 }
 

@@ -12,6 +12,7 @@ use Rattle.pp_law.specs.Requests.{goes_alone}
 use Rattle.pp_law.specs.Responses.{asks_head}
 use Rattle.pp_law.specs.State.{State, Exchange, Conn, Answer}
 use Rattle.pp_peers.specs.declared.peers.Peer.{Peer}
+use Rattle.pp_pipe.specs.Front.{stays_open}
 use Rattle.pp_pipe.specs.Reading.{Reading, Before, Within}
 use Rattle.pp_pipe.specs.declared.asks.Ask.{Ask}
 
@@ -58,6 +59,11 @@ ShowsReading (Before text) unread None = text ≡ unread
 ShowsReading (Within response place) unread (Some a) = (unread ≡ []) × IsWithin response place a
 ShowsReading reading unread answer = ⊥
 
+-- whether it stays open behind the response that comes is what its head said
+abbrev pub ShowsStaying : Bool → Option Answer → Type 0
+ShowsStaying stays None = ⊤
+ShowsStaying stays (Some a) = stays ≡ stays_open a.head
+
 -- ---- the connection
 
 -- as long as it is not closing: its line, the texts that are left, and the response that comes
@@ -77,6 +83,7 @@ pub record ShowsConn (s : State) (p : Peer) (k : Conn) : Type 0 where
   pub has_brought : p.has_brought ≡ k.has_brought
   pub may_pipeline : k.is_closing ≡ false → p.pipe.may_pipeline ≡ k.may_pipeline
   pub is_closing : p.is_closing ≡ k.is_closing
+  pub stays : k.is_closing ≡ false → ShowsStaying p.stays k.answer
   pub mark : p.mark ≡ k.mark
   pub has_waited : p.has_waited ≡ k.has_waited
   pub pipe : k.is_closing ≡ false → ShowsPipe s p k

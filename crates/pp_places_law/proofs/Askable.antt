@@ -38,7 +38,7 @@ CanBeAsked p = AreAskable p.flow.waiting × AreAskable p.flow.placed
 -- ---- it is nobody's, or over
 
 nobodys_can : (x : Entry) → IsAskable x → IsAskable (nobodys x)
-nobodys_can x ask = record { place = ask.place; short = ask.short; head = ask.head }
+nobodys_can x ask = record { place = ask.place; short = ask.short }
 
 all_changed : (n : ℕ) (f : Entry → Entry) (xs : List Entry) → ((x : Entry) → IsAskable x → IsAskable (f x)) → AreAskable xs → AreAskable (changed n f xs)
 all_changed n f [] each all = tt
@@ -93,9 +93,9 @@ lost_can e p can = by (entry_of e.number p.flow)
 
 -- ---- one more begins
 
-begun_can : (key : Key) (client : ℕ) (aim : Aim) (errand : Errand) (text : List ℕ) (p : Parts) → IsPlaceIn key.text.items errand.place → length text ≤ 16384 → errand.asks_head ≡ false → CanBeAsked p
+begun_can : (key : Key) (client : ℕ) (aim : Aim) (errand : Errand) (text : List ℕ) (p : Parts) → IsPlaceIn key.text.items errand.place → length text ≤ 16384 → CanBeAsked p
     → CanBeAsked (record p { flow = begun_by key client aim errand text p.flow })
-begun_can key client aim errand text p place short head can = by (may_ask p.flow)
+begun_can key client aim errand text p place short can = by (may_ask p.flow)
   where
     by : (b : Bool)
         → CanBeAsked (record p {
@@ -104,7 +104,7 @@ begun_can key client aim errand text p place short head can = by (may_ask p.flow
             | false ↦ p.flow
           ];
         })
-    by true = (askable_last p.flow.waiting (begun_with p.flow.begun client key.text.items aim errand text) can.0 (record { place = place; short = short; head = λ own. head }), can.1)
+    by true = (askable_last p.flow.waiting (begun_with p.flow.begun client key.text.items aim errand text) can.0 (record { place = place; short = short }), can.1)
     by false = can
 
 same_seats : (i : ℕ) (p : Parts) → (left_at_decision i p).seats ≡ p.seats
@@ -124,13 +124,13 @@ too_long_can i v span p can = can
 
 -- the client at that place asks for its key
 asked_can : (i : ℕ) (v : Version) (span : ℕ × ℕ) (ask : Ask) (p : Parts) (seat : Seat) (a : Asked) (key : Key) → slice_get p.seats i ≡ Some seat → asked_in seat.front ≡ Some a → a.key ≡ Some key → IsPlaceIn key.text.items ask.0.place
-    → length ask.1 ≤ 16384 → ask.0.asks_head ≡ false → CanBeAsked p → CanBeAsked (hole_asked i v span (Some ask) p)
+    → length ask.1 ≤ 16384 → CanBeAsked p → CanBeAsked (hole_asked i v span (Some ask) p)
 unfolding hole_asked exchange_begun
-asked_can i v span ask p seat a key here asked keyed place short head can =
+asked_can i v span ask p seat a key here asked keyed place short can =
     subst (λ (o : Option Seat). CanBeAsked (record (left_at_decision i p) { flow = begun_for o (Hole v span.0 span.1) ask.0 ask.1 (left_at_decision i p).flow }))
     (sym (ap (λ (seats : List Seat). slice_get seats i) (same_seats i p) ∙ here))
     (subst (λ (o : Option Key). CanBeAsked (record (left_at_decision i p) { flow = begun_of o seat.client.id (Hole v span.0 span.1) ask.0 ask.1 (left_at_decision i p).flow })) (sym (ap (λ (o : Option Asked). owned_in o) asked ∙ keyed))
-    (begun_can key seat.client.id (Hole v span.0 span.1) ask.0 ask.1 (left_at_decision i p) place short head (decision_can i p can)))
+    (begun_can key seat.client.id (Hole v span.0 span.1) ask.0 ask.1 (left_at_decision i p) place short (decision_can i p can)))
 
 fits_is : (n : ℕ) → nat_le n 16384 ≡ true → n ≤ 16384
 fits_is n is = grind (arith, nat_tests)
@@ -141,17 +141,17 @@ hole_can name i v span p can = by (slice_get p.seats i) refl
     none : CanBeAsked (hole_asked i v span None p)
     none = too_long_can i v span p can
 
-    by_text : (seat : Seat) (a : Asked) (key : Key) (text : List ℕ) → slice_get p.seats i ≡ Some seat → asked_in seat.front ≡ Some a → a.key ≡ Some key → (errand : Errand) → IsPlaceIn key.text.items errand.place → errand.asks_head ≡ false → (b : Bool)
+    by_text : (seat : Seat) (a : Asked) (key : Key) (text : List ℕ) → slice_get p.seats i ≡ Some seat → asked_in seat.front ≡ Some a → a.key ≡ Some key → (errand : Errand) → IsPlaceIn key.text.items errand.place → (b : Bool)
         → fits text ≡ b → CanBeAsked (hole_asked i v span (elim b as (λ t. Option Ask) [ true ↦ Some (errand, text) | false ↦ None ]) p)
-    by_text seat a key text here asked keyed errand place head true fit = asked_can i v span (errand, text) p seat a key here asked keyed place (fits_is (length text) fit) head can
-    by_text seat a key text here asked keyed errand place head false fit = none
+    by_text seat a key text here asked keyed errand place true fit = asked_can i v span (errand, text) p seat a key here asked keyed place (fits_is (length text) fit) can
+    by_text seat a key text here asked keyed errand place false fit = none
 
     named : (seat : Seat) (a : Asked) (key : Key) → slice_get p.seats i ≡ Some seat → asked_in seat.front ≡ Some a → a.key ≡ Some key → (front : Front) → CanBeAsked (hole_asked i v span (by_front (hole_ask name v span seat a key) front) p)
     named seat a key here asked keyed Nothing = none
     named seat a key here asked keyed Begun = none
     named seat a key here asked keyed (Refused status) = none
     named seat a key here asked keyed (IsAsked head fault) =
-        by_text seat a key (text_by name head key (AsHole span.0 (span.1 - 1) v.tag)) here asked keyed (errand_by a key head (AsHole span.0 (span.1 - 1) v.tag)) key.within refl
+        by_text seat a key (text_by name head key (AsHole span.0 (span.1 - 1) v.tag)) here asked keyed (errand_by a key head (AsHole span.0 (span.1 - 1) v.tag)) key.within
         (fits (text_by name head key (AsHole span.0 (span.1 - 1) v.tag))) refl
 
     owned : (seat : Seat) (a : Asked) → slice_get p.seats i ≡ Some seat → asked_in seat.front ≡ Some a → (o : Option Key) → a.key ≡ o → CanBeAsked (hole_asked i v span (by_key (hole_ask name v span seat a) (current_of seat.client.heard) o) p)

@@ -8,8 +8,8 @@ use Rattle.std.specs.Prelude.{IfOk, count_by, slice_index_or}
 use Rattle.std.specs.Result.{result_unwrap_or}
 use Rattle.pp_cache_law.proofs.Finds.{find_joined, first_of_two, none_found}
 use Rattle.pp_cache_law.proofs.PairLemmas.{none_of}
-use Rattle.pp_closings_law.proofs.Noted.{at_it, stays}
-use Rattle.pp_closings_law.specs.Log.{AreLinked}
+use Rattle.pp_turns_law.proofs.AllDropped.{at_it, stays}
+use Rattle.pp_turns_law.specs.Log.{AreLinked}
 use Rattle.pp_desk.specs.Closings.{Sides, peer_numbers}
 use Rattle.pp_flow.specs.Changes.{entry_of}
 use Rattle.pp_flow.specs.Entries.{is_number as is_entry}
@@ -37,7 +37,7 @@ use Rattle.pp_places.specs.Placing.{IsDialled, IsDialledFor, IsDialledTo, dial_l
 use Rattle.pp_state.specs.declared.state.State.{State as Turn}
 use Rattle.pp_seats_law.specs.Exchanges.{ShowsExchange}
 use Rattle.pp_states_law.proofs.Dialled.{dials as state_dials}
-use Rattle.pp_steps_law.specs.Steps.{whole}
+use Rattle.pp_states_law.specs.Steps.{whole}
 use Rattle.pp_target.specs.Key.{Key}
 use Rattle.pp_world.specs.Log.{Log}
 use Rattle.pp_world.specs.Wire.{IsNewNumber, dial_happening}

@@ -10,7 +10,7 @@ use Rattle.pp_peers.specs.declared.placing.Placed.TheVariants.{On, Dial, CloseTh
 use Rattle.pp_places.specs.Around.{Around}
 use Rattle.pp_state.specs.declared.state.State.{State as Turn}
 use Rattle.pp_states_law.proofs.Framed.{states}
-use Rattle.pp_steps_law.specs.Steps.{whole}
+use Rattle.pp_states_law.specs.Steps.{whole}
 use Rattle.pp_places_law.proofs.Walks.{by_one, by_place}
 use Rattle.pp_places_law.specs.Around.{MayPlace, ShowsAround}
 

@@ -17,8 +17,8 @@ use Rattle.pp_law.specs.Lists.{Bytes}
 use Rattle.pp_law.specs.State.{State, Exchange}
 use Rattle.pp_places.specs.Placing.{host_of, put_last}
 use Rattle.pp_seats_law.specs.Exchanges.{ShowsExchange}
-use Rattle.pp_steps_law.proofs.Told.{told_of, told_over}
-use Rattle.pp_steps_law.specs.Told.{AreTold, EachIsTold, IsToldBy}
+use Rattle.pp_states_law.proofs.Told.{told_of, told_over}
+use Rattle.pp_states_law.specs.Told.{AreTold, EachIsTold, IsToldBy}
 use Rattle.pp_target.specs.Key.{IsPlaceIn, Key}
 use Rattle.pp_places_law.specs.Around.{AreAskable, IsAskable}
 use Rattle.pp_places_law.specs.Places.{IsUnplaced}
@@ -145,4 +145,4 @@ told_put number m next n k f x told known = record {
 }
 
 pub askable_put : (k : ℕ) (x : Entry) → IsAskable x → IsAskable (asking (record x.errand { asked = 0 }) (with_place (Some k) x))
-askable_put k x ask = record { place = ask.place; short = ask.short; head = ask.head }
+askable_put k x ask = record { place = ask.place; short = ask.short }

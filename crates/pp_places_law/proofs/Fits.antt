@@ -4,7 +4,7 @@ use Rattle.std.specs.List.{list_any}
 use Rattle.std.specs.Prelude.{count_by, option_map}
 use Rattle.pp_cache_law.proofs.Finds.{find_joined, find_mapped, first_of_two, none_found, none_within}
 use Rattle.pp_cache_law.proofs.PairLemmas.{count_first, count_joined, count_kept, count_mapped_same}
-use Rattle.pp_closings_law.specs.Log.{IsConnecting}
+use Rattle.pp_turns_law.specs.Log.{IsConnecting}
 use Rattle.pp_flow_law.proofs.Entries.{none_some, same_number}
 use Rattle.pp_law.specs.After.{new_conn, out}
 use Rattle.pp_law.specs.Connections.{conn, is_conn, on_conn, on_exchange, placing, put_on}

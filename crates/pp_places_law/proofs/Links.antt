@@ -5,7 +5,7 @@ use Rattle.std.specs.Prelude.{count_by}
 use Rattle.std.proofs.lemmas.Bool.Decides.{nat_tests}
 use Rattle.pp_cache_law.proofs.Finds.{find_kept}
 use Rattle.pp_cache_law.proofs.PairLemmas.{count_first}
-use Rattle.pp_closings_law.specs.Log.{AreLinked}
+use Rattle.pp_turns_law.specs.Log.{AreLinked}
 use Rattle.pp_desk.specs.Closings.{peer_numbers}
 use Rattle.pp_desk.specs.Shutting.{closed_as, closings}
 use Rattle.pp_flow_law.proofs.Entries.{none_some, same_number}

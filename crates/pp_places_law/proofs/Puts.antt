@@ -3,12 +3,10 @@ use Rattle.std.proofs.Common.{◌≡◌, ◌≤◌, ◌+◌, ◌-◌, ◌*◌, �
 use Rattle.std.proofs.lemmas.Bool.Decides.{nat_tests}
 use Rattle.std.proofs.lemmas.List.{length-append, length-drop}
 use Rattle.std.specs.Prelude.{drop, is_some, option_map, unwrap_or}
-use Rattle.pp_closings_law.proofs.Peers.{HasPeer, linked}
-use Rattle.pp_closings_law.specs.Log.{AreLinked}
+use Rattle.pp_turns_law.proofs.Peers.{HasPeer, linked}
+use Rattle.pp_turns_law.specs.Log.{AreLinked}
 use Rattle.pp_flow.specs.Changes.{Exchanges, entry_of, placed_on, with_errand}
 use Rattle.pp_flow.specs.Entries.{asking, is_number as is_entry, with_place}
-use Rattle.pp_flow.specs.declared.entry.Aim.{Aim}
-use Rattle.pp_flow.specs.declared.entry.Aim.TheVariants.{Own as OfItself, Hole, Pass}
 use Rattle.pp_flow.specs.declared.entry.Entry.{Entry}
 use Rattle.pp_flow_law.proofs.Entries.{same_as}
 use Rattle.pp_flow_law.specs.Tables.{ShowsFlow, none_leaves}
@@ -16,7 +14,7 @@ use Rattle.pp_law.specs.Connections.{conn, exchange, limits, on_conn, on_exchang
 use Rattle.pp_law.specs.Lists.{Bytes}
 use Rattle.pp_law.specs.Requests.{goes_alone}
 use Rattle.pp_law.specs.Responses.{asks_head}
-use Rattle.pp_law.specs.State.{State, Aim as LawAim, Conn, Exchange, Through, Own, Filling}
+use Rattle.pp_law.specs.State.{State, Conn, Exchange}
 use Rattle.pp_laws_bounds.proofs.Places.{HasRoom, on_room}
 use Rattle.pp_peers.specs.Peers.{Loaded, is_number, with_load as with_load_in, with_pipe}
 use Rattle.pp_peers.specs.Placing.{place}
@@ -29,24 +27,22 @@ use Rattle.pp_peers_law.specs.Peers.{ShowsConn, ShowsPipe, rest_of, rests_of}
 use Rattle.pp_pipe.specs.Line.{pushed, pushed_where}
 use Rattle.pp_places.specs.Around.{Around, with_sides}
 use Rattle.pp_places.specs.Placing.{is_put, place_at, place_of, put_last, put_on as put_in_turn, put_text, put_text_where, takes, takes_on, text_on}
-use Rattle.pp_plan.specs.Requests.{is_head}
 use Rattle.pp_seats_law.proofs.Entries.{exchanges}
 use Rattle.pp_seats_law.specs.Exchanges.{ShowsExchange}
-use Rattle.pp_seats_law.specs.Fates.{aim_of}
 use Rattle.pp_desk.specs.Closings.{Sides}
 use Rattle.pp_state.specs.declared.state.State.{State as Turn}
 use Rattle.pp_states_law.proofs.PutOn.{puts as state_puts}
 use Rattle.pp_states_law.specs.Decisions.{AreApart}
 use Rattle.pp_states_law.specs.Puts.{IsPut}
 use Rattle.pp_states_law.specs.States.{Parts as Whole, ShowsState}
-use Rattle.pp_steps_law.specs.Steps.{ShowsSteps, whole}
-use Rattle.pp_steps_law.specs.Told.{AreTold}
+use Rattle.pp_states_law.specs.Steps.{ShowsSteps, whole}
+use Rattle.pp_states_law.specs.Told.{AreTold}
 use Rattle.pp_target.specs.Key.{Key}
 use Rattle.pp_places_law.proofs.Entries.{HasEntry, askable_found, askable_last, askable_put, askable_without, host_is, is_put_at, put_at, put_last_is, short_texts, told_put, waits}
 use Rattle.pp_places_law.proofs.Fits.{put_may}
 use Rattle.pp_places_law.proofs.Links.{length_piped, numbers_piped}
 use Rattle.pp_places_law.proofs.Ways.{in_found, none_closes}
-use Rattle.pp_places_law.specs.Around.{AreAskable, IsAskable, ShowsAround, is_passed}
+use Rattle.pp_places_law.specs.Around.{AreAskable, IsAskable, ShowsAround}
 use Rattle.pp_places_law.specs.Places.{IsUnplaced, PlacesAreTheLaws, PutsAreTheLaws}
 
 -- ---- where it is asked
@@ -116,26 +112,6 @@ taken number p x s len peer k shows short shown goes few =
     (rests_short s k.line (short_texts number none_leaves x.sides.parts.flow s shows.turn.steps.shows.exchanges shows.waiting shows.placed)))
     (ap (λ (l : Loaded). l.load.asks) (loads s peer k shown goes)) few
 
--- ---- it asks for what the law asks
-
-asks_same : (number : ℕ → ℕ) (y : Entry) (e : Exchange) → ShowsExchange number y e → IsAskable y → y.errand.asks_head ≡ asks_head e
-asks_same number y e shows ask = by y.exchange.aim refl
-  where
-    through : (aim : LawAim) → aim ≡ e.aim → aim ≡ Through → y.errand.asks_head ≡ asks_head e
-    through aim is so =
-        let same : e.aim ≡ Through = sym is ∙ so in
-        shows.asks_head (ap (λ (a : LawAim). elim a as (λ t. Bool) [ Through ↦ true | Own ↦ false | Filling v from to ↦ false ]) same)
-        ∙ sym (ap (λ (a : LawAim). elim a as (λ t. Bool) [ Through ↦ is_head e.head.method | Own ↦ false | Filling v from to ↦ false ]) same)
-
-    by : (aim : Aim) → y.exchange.aim ≡ aim → y.errand.asks_head ≡ asks_head e
-    by Pass is = through (aim_of y.exchange.aim) shows.aim (ap (λ (a : Aim). aim_of a) is)
-    by OfItself is =
-        ask.head (ap (λ (a : Aim). is_passed a) is)
-        ∙ sym (ap (λ (a : LawAim). elim a as (λ t. Bool) [ Through ↦ is_head e.head.method | Own ↦ false | Filling v from to ↦ false ]) (sym shows.aim ∙ ap (λ (a : Aim). aim_of a) is))
-    by (Hole v from to) is =
-        ask.head (ap (λ (a : Aim). is_passed a) is)
-        ∙ sym (ap (λ (a : LawAim). elim a as (λ t. Bool) [ Through ↦ is_head e.head.method | Own ↦ false | Filling v from to ↦ false ]) (sym shows.aim ∙ ap (λ (a : Aim). aim_of a) is))
-
 -- ---- it is put there
 
 abbrev put_sides : ℕ → ℕ → Entry → Peer → Sides → Sides
@@ -175,7 +151,7 @@ put_steps : (number : ℕ → ℕ) (name : Bytes) (x : Sides) (s : State) (e : E
 unfolding put_on on_conn on_exchange
 put_steps number name x s e y peer c steps apart stands = record {
   shows =
-      subst (λ (b : Bool). ShowsState number name [] none_leaves (asked_by x e.number c.number y peer y.text.items b) (put_on e.number c.number s)) (sym (asks_same number y e stands.shows stands.ask))
+      subst (λ (b : Bool). ShowsState number name [] none_leaves (asked_by x e.number c.number y peer y.text.items b) (put_on e.number c.number s)) (sym stands.shows.asks_head)
       (subst (λ (text : Bytes). ShowsState number name [] none_leaves (asked_by x e.number c.number y peer text (asks_head e)) (put_on e.number c.number s)) (sym stands.shows.text)
       (state_puts number name [] none_leaves (whole x.parts x.peers) s steps.shows y e peer c apart stands.put));
   order = steps.order;

@@ -3,11 +3,11 @@ use Rattle.std.proofs.Common.{◌≡◌, ◌≤◌, ◌+◌, refl, sym, subst, a
 use Rattle.std.specs.Result.{result_unwrap_or}
 use Rattle.pp_cache.specs.Bounds.{IsBounded}
 use Rattle.pp_cache_law.specs.Pairs.{AreBoth}
-use Rattle.pp_closings_law.proofs.Noted.{stays as stays_there}
-use Rattle.pp_closings_law.proofs.Over.{over_conns, over_with}
-use Rattle.pp_closings_law.proofs.Standing.{nowhere}
-use Rattle.pp_decides_law.proofs.All.{fills_all}
-use Rattle.pp_decides_law.specs.Fills.{IsFilledAs}
+use Rattle.pp_turns_law.proofs.AllDropped.{stays as stays_there}
+use Rattle.pp_turns_law.proofs.Over.{over_conns, over_with}
+use Rattle.pp_turns_law.proofs.StandsIn.{nowhere}
+use Rattle.pp_turns_law.proofs.All.{fills_all}
+use Rattle.pp_turns_law.specs.Fills.{IsFilledAs}
 use Rattle.pp_desk.specs.Closings.{Sides, with_parts}
 use Rattle.pp_flow.specs.Changes.{entry_of}
 use Rattle.pp_flow.specs.declared.entry.Entry.{Entry}
@@ -34,11 +34,11 @@ use Rattle.pp_state.specs.declared.state.State.{State as Turn}
 use Rattle.pp_states_law.proofs.Framed.{states}
 use Rattle.pp_states_law.proofs.Lines.{all_found}
 use Rattle.pp_states_law.specs.Exchanges.{StandsNowhere}
-use Rattle.pp_steps_law.proofs.Charged.{losses, lost_given}
-use Rattle.pp_steps_law.proofs.Lost.{asks_again}
-use Rattle.pp_steps_law.proofs.Paid.{Before, Stays as StaysThere, charge_stays}
-use Rattle.pp_steps_law.specs.Charges.{GoesOn, IsFor, IsThere}
-use Rattle.pp_steps_law.specs.Steps.{ShowsSteps, whole}
+use Rattle.pp_states_law.proofs.Charged.{losses, lost_given}
+use Rattle.pp_states_law.proofs.Lost.{asks_again}
+use Rattle.pp_states_law.proofs.Paid.{Before, Stays as StaysThere, charge_stays}
+use Rattle.pp_states_law.specs.Charges.{GoesOn, IsFor, IsThere}
+use Rattle.pp_states_law.specs.Steps.{ShowsSteps, whole}
 use Rattle.pp_take.specs.Filling.{filled}
 use Rattle.pp_take.specs.Unplaced.{asked_again_where, refused_dial as refused_in_turn}
 use Rattle.pp_turns_law.specs.Turns.{ShowsTurn}

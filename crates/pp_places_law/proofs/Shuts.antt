@@ -6,14 +6,14 @@ use Rattle.std.specs.List.{cons_option, filter_map, fold, list_any}
 use Rattle.std.specs.Prelude.{slice_get, ⊤}
 use Rattle.pp_cache_law.proofs.Finds.{find_kept, find_out}
 use Rattle.pp_cache_law.proofs.Numbers.{some_is}
-use Rattle.pp_closings_law.proofs.Gone.{closing_if, quit_clients, quit_exchanges, quitting}
-use Rattle.pp_closings_law.proofs.Noted.{closing_drop, stays as stays_there}
-use Rattle.pp_closings_law.proofs.Own.{law_none}
-use Rattle.pp_closings_law.proofs.Quit.{closing_client}
-use Rattle.pp_closings_law.proofs.Shutting.{shuts}
-use Rattle.pp_closings_law.specs.Log.{AreDropped, AreLinked, IsConnecting, MayCome}
-use Rattle.pp_closings_law.specs.Sides.{ShowsSides}
-use Rattle.pp_decides_law.proofs.Sitting.{is_at}
+use Rattle.pp_turns_law.proofs.Gone.{closing_if, quit_clients, quit_exchanges, quitting}
+use Rattle.pp_turns_law.proofs.AllDropped.{closing_drop, stays as stays_there}
+use Rattle.pp_turns_law.proofs.Own.{law_none}
+use Rattle.pp_turns_law.proofs.Quit.{closing_client}
+use Rattle.pp_turns_law.proofs.Shutting.{shuts}
+use Rattle.pp_turns_law.specs.Log.{AreDropped, AreLinked, IsConnecting, MayCome}
+use Rattle.pp_turns_law.specs.Sides.{ShowsSides}
+use Rattle.pp_turns_law.proofs.Sitting.{is_at}
 use Rattle.pp_desk.specs.Closings.{Sides}
 use Rattle.pp_desk.specs.Shutting.{closed_as, closings, is_any_over, over_client, over_clients, over_peers, seats_left, stays}
 use Rattle.pp_flow_law.proofs.Entries.{none_some, other_way, same_number}

@@ -6,8 +6,8 @@ use Rattle.std.specs.Prelude.{count_by, is_some, option_map}
 use Rattle.pp_cache_law.proofs.Finds.{find_mapped}
 use Rattle.pp_cache_law.proofs.Numbers.{some_is}
 use Rattle.pp_cache_law.proofs.PairLemmas.{count_first}
-use Rattle.pp_closings_law.proofs.Noted.{at_it, stays}
-use Rattle.pp_closings_law.proofs.Peers.{HasPeer, linked}
+use Rattle.pp_turns_law.proofs.AllDropped.{at_it, stays}
+use Rattle.pp_turns_law.proofs.Peers.{HasPeer, linked}
 use Rattle.pp_desk.specs.Closings.{Sides}
 use Rattle.pp_desk.specs.Shutting.{closings}
 use Rattle.pp_flow_law.proofs.Entries.{none_some, same_as}
@@ -28,7 +28,7 @@ use Rattle.pp_places.specs.Placing.{given_way}
 use Rattle.pp_state.specs.declared.state.State.{State as Turn}
 use Rattle.pp_states_law.proofs.Dialled.{empty_drops}
 use Rattle.pp_states_law.specs.Decisions.{AreApart}
-use Rattle.pp_steps_law.specs.Steps.{whole}
+use Rattle.pp_states_law.specs.Steps.{whole}
 use Rattle.pp_world.specs.Log.{Log}
 use Rattle.pp_world.specs.declared.event.Side.TheVariants.{Origin}
 use Rattle.pp_world.specs.declared.happening.Happening.TheVariants.{Dropped}

@@ -1,11 +1,9 @@
 -- How what a turn places, with the connections that are open, stands for the state of the law (RFC 2616, sections 8.1 and 8.1.2.2).
-use Rattle.std.specs.Prelude.{◌≡◌, ◌≤◌, ◌+◌, ℕ, Bool, true, false, List, [], ◌∷◌, length, Some, ⊤}
+use Rattle.std.specs.Prelude.{◌≡◌, ◌≤◌, ◌+◌, ℕ, false, List, [], ◌∷◌, length, Some, ⊤}
 use Rattle.std.specs.List.{All}
 use Rattle.pp_cache.specs.Bounds.{IsBounded}
-use Rattle.pp_closings_law.specs.Log.{AreLinked, IsConnecting}
+use Rattle.pp_turns_law.specs.Log.{AreLinked, IsConnecting}
 use Rattle.pp_desk.specs.Closings.{Sides, peer_numbers}
-use Rattle.pp_flow.specs.declared.entry.Aim.{Aim}
-use Rattle.pp_flow.specs.declared.entry.Aim.TheVariants.{Own, Hole, Pass}
 use Rattle.pp_flow.specs.declared.entry.Entry.{Entry}
 use Rattle.pp_flow_law.specs.Tables.{none_leaves}
 use Rattle.pp_law.specs.Connections.{conn, limits}
@@ -14,24 +12,17 @@ use Rattle.pp_law.specs.State.{State, Conn}
 use Rattle.pp_places.specs.Around.{Around}
 use Rattle.pp_state.specs.declared.state.State.{State as Turn}
 use Rattle.pp_states_law.specs.Decisions.{AreApart}
-use Rattle.pp_steps_law.specs.Steps.{ShowsSteps}
+use Rattle.pp_states_law.specs.Steps.{ShowsSteps}
 use Rattle.pp_target.specs.Key.{IsPlaceIn}
 
 -- ---- what can be asked
 
-abbrev pub is_passed : Aim → Bool
-is_passed Own = false
-is_passed (Hole version from to) = false
-is_passed Pass = true
-
--- its host stands in the text of its key, its text has room in a pipe with seven others, and only what is passed asks for a head alone
+-- its host stands in the text of its key, and its text has room in a pipe with seven others
 pub record IsAskable (x : Entry) : Type 0 where
   -- as in each key (`Key` of `pp_seats`), by which it begins (Deciding.`errand_by` of `pp_take`)
   pub place : IsPlaceIn x.key.items x.errand.place
   -- as each text of an entry (`Entry` of `pp_flow`)
   pub short : length x.text.items ≤ 16384
-  -- as it begins (Deciding.`of_request` of `pp_take`)
-  pub head : is_passed x.exchange.aim ≡ false → x.errand.asks_head ≡ false
 
 abbrev pub AreAskable : List Entry → Type 0
 AreAskable [] = ⊤

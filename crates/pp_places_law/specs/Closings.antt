@@ -1,8 +1,8 @@
 -- All that are closing leave the log's connections before exchanges get their places: clients, in the order of their numbers, and then
 -- connections to origins (RFC 2616, section 8.1).
 use Rattle.std.specs.Prelude.{◌≡◌, ℕ, true, false, List, [], ◌∷◌, ◌++◌, filter, find, Some, None, ⊤}
-use Rattle.pp_closings_law.specs.Log.{AreLinked, IsConnecting}
-use Rattle.pp_closings_law.specs.Sides.{ShowsSides}
+use Rattle.pp_turns_law.specs.Log.{AreLinked, IsConnecting}
+use Rattle.pp_turns_law.specs.Sides.{ShowsSides}
 use Rattle.pp_desk.specs.Closings.{Sides, peer_numbers}
 use Rattle.pp_desk.specs.Shutting.{closings, over_clients, over_peers, seats_left, without_all}
 use Rattle.pp_law.specs.Closing.{is_of}

@@ -2,7 +2,7 @@
 -- section 8.1.4; RFC 7233, section 3.2).
 use Rattle.std.specs.Prelude.{◌≡◌, ◌+◌, ℕ, false, Option, Some, None}
 use Rattle.pp_cache.specs.Bounds.{IsBounded}
-use Rattle.pp_decides_law.specs.Fills.{HasRoomForAll, IsFilled, MayAllFill}
+use Rattle.pp_turns_law.specs.Fills.{HasRoomForAll, IsFilled, MayAllFill}
 use Rattle.pp_flow.specs.Changes.{entry_of}
 use Rattle.pp_flow.specs.declared.entry.Entry.{Entry}
 use Rattle.pp_law.specs.Connections.{WaitsDial, end_exchange, lose_attempt, may_ask_again, placing}
@@ -12,7 +12,7 @@ use Rattle.pp_places.specs.Around.{Around, moment_of}
 use Rattle.pp_places.specs.Placing.{ArePlaced, IsDialledFor}
 use Rattle.pp_state.specs.Ends.{KeepsRest, Parts, ended, lost_attempt, parts}
 use Rattle.pp_state.specs.declared.state.State.{State as Turn}
-use Rattle.pp_steps_law.specs.Charges.{GoesOn, IsFor}
+use Rattle.pp_states_law.specs.Charges.{GoesOn, IsFor}
 use Rattle.pp_turns_law.specs.Firsts.{AreAwake}
 use Rattle.pp_world.specs.Log.{Log}
 use Rattle.pp_places_law.specs.Around.{MayPlace, ShowsAround}

@@ -7,6 +7,7 @@ use Rattle.pp_proxy.specs.Handling.{Handles}
 use Rattle.pp_proxy.specs.Leaving.{Leaves}
 use Rattle.pp_proxy.specs.Moving.{LeadsOn, Turning}
 use Rattle.pp_proxy.specs.Settling.{Settles}
+use Rattle.pp_shelf.specs.Steady.{GrowsSteadily}
 use Rattle.pp_state.specs.Ends.{AreSeated}
 use Rattle.pp_world.specs.declared.event.Event.{Event}
 
@@ -34,4 +35,7 @@ pub record TakesEvent (event : Event) (x y : Turning) : Type 0 where
   pub kept_bounded : IsBounded kept.moving.desk.state.cache
   pub settles : AreSeated kept.moving.desk.state → LeadsOn (Settles kept.shelf) kept.moving y.moving kept.log y.log kept.faults y.faults
   pub settles_shelf : y.shelf ≡ kept.shelf
+  -- over all of it the log gets no word of a life's opening, and no wait; and the outside fails no less often
+  pub steady : GrowsSteadily x.log y.log
+  pub count : x.faults ≤ y.faults
   pub bounded : IsBounded y.moving.desk.state.cache

@@ -1,9 +1,9 @@
 -- The pipe of a connection amid a body, and what the law has of its exchange behind the data.
 use Rattle.std.proofs.Common.{◌≡◌, refl, sym, subst, ap, ◌∙◌, ℕ, suc, ◌+◌, Bool, true, false, not, ◌||◌, cond, find, List, [], ◌∷◌, Option, Some, None}
 use Rattle.pp_cache_law.proofs.Numbers.{some_is}
-use Rattle.pp_closings_law.proofs.Orderly.{mapped}
-use Rattle.pp_closings_law.proofs.Peers.{HasPeer, linked, set_itself}
-use Rattle.pp_closings_law.specs.Sides.{AreOrderly, IsOrderly, MayClose}
+use Rattle.pp_turns_law.proofs.Orderly.{mapped}
+use Rattle.pp_turns_law.proofs.Peers.{HasPeer, linked, set_itself}
+use Rattle.pp_turns_law.specs.Sides.{AreOrderly, IsOrderly, MayClose}
 use Rattle.pp_endings_law.proofs.GoneShort.{apart_set, go_as, set_conns}
 use Rattle.pp_law.specs.Connections.{is_conn, is_outstanding, on_client_of, on_conn}
 use Rattle.pp_law.specs.Lists.{Bytes}

@@ -3,8 +3,8 @@ use Rattle.std.proofs.Common.{◌≡◌, ◌⊎◌, inl, inr, refl, sym, subst, 
 use Rattle.std.specs.Prelude.{is_ok}
 use Rattle.pp_cache_law.proofs.Finds.{find_passes}
 use Rattle.pp_cache_law.proofs.Numbers.{some_is}
-use Rattle.pp_closings_law.proofs.Peers.{HasPeer, linked}
-use Rattle.pp_closings_law.specs.Sides.{ShowsSides}
+use Rattle.pp_turns_law.proofs.Peers.{HasPeer, linked}
+use Rattle.pp_turns_law.specs.Sides.{ShowsSides}
 use Rattle.pp_desk.specs.Closings.{Sides}
 use Rattle.pp_flow_law.proofs.Entries.{same_number}
 use Rattle.pp_flow_law.specs.Tables.{none_leaves}
@@ -38,8 +38,8 @@ use Rattle.pp_state.specs.declared.state.State.{State as Turn}
 use Rattle.pp_states_law.proofs.Alone.{piped as pipe_is}
 use Rattle.pp_states_law.proofs.ReadOn.{heads_go_on}
 use Rattle.pp_states_law.specs.States.{ShowsState}
-use Rattle.pp_steps_law.proofs.Told.{conn_next, told_next}
-use Rattle.pp_steps_law.specs.Steps.{whole}
+use Rattle.pp_states_law.proofs.Told.{conn_next, told_next}
+use Rattle.pp_states_law.specs.Steps.{whole}
 use Rattle.pp_store.specs.Kept.{KeptMap}
 use Rattle.pp_reads_law.proofs.Amid.{set_may}
 use Rattle.pp_reads_law.proofs.BadOnes.{bad_heads}

@@ -2,11 +2,11 @@
 use Rattle.std.proofs.Common.{◌≡◌, refl, sym, subst, ap, ◌∙◌, ℕ, Bool, true, false, not, ◌&&◌, ◌||◌, find, List, [], ◌∷◌, Some, None, Option}
 use Rattle.std.specs.Prelude.{option_map, slice_get}
 use Rattle.pp_cache_law.proofs.Numbers.{true_false}
-use Rattle.pp_closings_law.proofs.Dropped.{drops}
-use Rattle.pp_closings_law.proofs.Own.{HasEntry, has_entry}
-use Rattle.pp_closings_law.proofs.Peers.{HasPeer, find_set, linked}
-use Rattle.pp_closings_law.proofs.Shut.{shuts}
-use Rattle.pp_closings_law.specs.Sides.{ShowsSides}
+use Rattle.pp_turns_law.proofs.Dropped.{drops}
+use Rattle.pp_turns_law.proofs.Own.{HasEntry, has_entry}
+use Rattle.pp_turns_law.proofs.Peers.{HasPeer, find_set, linked}
+use Rattle.pp_turns_law.proofs.Shut.{shuts}
+use Rattle.pp_turns_law.specs.Sides.{ShowsSides}
 use Rattle.pp_desk.specs.Closings.{Sides, closed_conn}
 use Rattle.pp_endings_law.proofs.Pipes.{closed_is, closing_as, conns_beside, numbered, peer_over, pipe_found, with_line}
 use Rattle.pp_endings_law.proofs.Rests.{failed_conns, failed_may}
@@ -31,9 +31,9 @@ use Rattle.pp_state.specs.Asking.{is_outstanding as is_asked_whole}
 use Rattle.pp_state.specs.Ends.{Parts, ended, failed, lost_attempt}
 use Rattle.pp_state.specs.Lines.{lost_line}
 use Rattle.pp_states_law.proofs.Lines.{same_itself}
-use Rattle.pp_steps_law.proofs.Charged.{failures, losses}
-use Rattle.pp_steps_law.specs.Charges.{IsThere}
-use Rattle.pp_steps_law.specs.Steps.{ShowsSteps}
+use Rattle.pp_states_law.proofs.Charged.{failures, losses}
+use Rattle.pp_states_law.specs.Charges.{IsThere}
+use Rattle.pp_states_law.specs.Steps.{ShowsSteps}
 use Rattle.pp_reads_law.proofs.Fronts.{IsFront, is_front}
 use Rattle.pp_reads_law.proofs.Lost.{attempt_conns, attempt_may}
 use Rattle.pp_reads_law.specs.Bads.{BadBodiesAreTheLaws, BadHeadsAreTheLaws, EarlyOnesAreTheLaws, IsOpen, piped}

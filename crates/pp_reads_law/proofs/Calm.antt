@@ -19,7 +19,6 @@ use Rattle.pp_store.specs.Kept.{KeptMap}
 use mathlib.Core.Logic.{inl, inr}
 use Rattle.pp_reads_law.proofs.Knows.{rooms_over}
 use Rattle.pp_reads_law.proofs.StayReads.{answers_stay}
-use Rattle.pp_reads_law.specs.Brings.{HeadIsBounded}
 
 -- ---- replies that end
 
@@ -97,9 +96,9 @@ row_given : (shelf : KeptMap) (key : List ℕ) (old new : State) (it : MayCome s
 row_given shelf key old new (inl comes) calm = tt
 row_given shelf key old new (inr stays) calm = absurd (let both : true ≡ false = ap (λ (s : State). s.is_astray) (sym stays) ∙ calm in cc both)
 
-pub head_given : (o : Option ℕ) (shelf : KeptMap) (n : ℕ) (old new : Both) (it : HeadCameFor o shelf n old new) → new.state.is_astray ≡ false → HeadIsBounded o shelf n old new it → IsGivenHead o shelf n old new it
-head_given None shelf n old new it calm bounded = tt
-head_given (Some m) shelf n old new it calm bounded = record { row = by (key_of m old.state.flow) it.row; bounded = bounded }
+pub head_given : (o : Option ℕ) (shelf : KeptMap) (n : ℕ) (old new : Both) (it : HeadCameFor o shelf n old new) → new.state.is_astray ≡ false → IsGivenHead o shelf n old new it
+head_given None shelf n old new it calm = tt
+head_given (Some m) shelf n old new it calm = record { row = by (key_of m old.state.flow) it.row }
   where
     beside_calm : it.beside.is_astray ≡ false
     beside_calm = (answers_stay n m (record old { state = it.beside }) new it.answers).astray calm

@@ -2,10 +2,11 @@
 use Rattle.std.proofs.Common.{◌≡◌, ◌⊎◌, inl, inr, ◌<◌, ◌≤◌, refl, sym, subst, ap, ap₂, ◌∙◌, ℕ, Bool, cond, drop, find, length, List, [], ◌∷◌, ◌++◌, Option, Some, None, arith}
 use Rattle.std.proofs.lemmas.List.{length-drop}
 use Rattle.std.specs.Prelude.{option_map}
+use Rattle.pp_cache.specs.Bounds.{IsBounded}
 use Rattle.pp_cache_law.proofs.Finds.{find_passes}
 use Rattle.pp_cache_law.proofs.Numbers.{some_is}
-use Rattle.pp_closings_law.proofs.Peers.{HasPeer, linked}
-use Rattle.pp_closings_law.specs.Sides.{ShowsSides}
+use Rattle.pp_turns_law.proofs.Peers.{HasPeer, linked}
+use Rattle.pp_turns_law.specs.Sides.{ShowsSides}
 use Rattle.pp_endings_law.proofs.GoneShort.{found_set}
 use Rattle.pp_endings_law.proofs.Pipes.{pipe_found, with_line}
 use Rattle.pp_flow_law.proofs.Entries.{same_number}
@@ -20,7 +21,7 @@ use Rattle.pp_origins.specs.Gots.{Both, HeadCame, IsStep, IsStepOn, Remains, goi
 use Rattle.pp_peers.specs.Peers.{is_number, with_peer, with_pipe}
 use Rattle.pp_peers.specs.declared.peers.Peer.{Peer}
 use Rattle.pp_peers_law.proofs.Heads.{before}
-use Rattle.pp_peers_law.specs.Peers.{ShowsConn, ShowsReading}
+use Rattle.pp_peers_law.specs.Peers.{ShowsConn, ShowsReading, ShowsStaying}
 use Rattle.pp_pipe.specs.Asks.{awaited}
 use Rattle.pp_pipe.specs.Feeding.{IsFed, IsFrontTold, IsHeadFed, IsUsed}
 use Rattle.pp_pipe.specs.Front.{Front, Final, Unfinished, NoResponse, front_of}
@@ -34,7 +35,7 @@ use Rattle.pp_states_law.proofs.Alone.{piped as pipe_is}
 use Rattle.pp_states_law.proofs.ReadOn.{readings}
 use Rattle.pp_states_law.specs.Gots.{IsAmidHead}
 use Rattle.pp_states_law.specs.States.{ShowsState}
-use Rattle.pp_steps_law.specs.Steps.{whole}
+use Rattle.pp_states_law.specs.Steps.{whole}
 use Rattle.pp_store.specs.Kept.{KeptMap}
 use Rattle.pp_reads_law.proofs.Amid.{pipe_twice, set_may}
 use Rattle.pp_reads_law.proofs.Awaited.{final_is, head_steps}
@@ -75,7 +76,8 @@ module _ (number : ℕ → ℕ) (shelf : KeptMap) (x : Both) (s : State) (n : �
       (subst (λ (m : ℕ). ShowsState number x.state.name.items [] none_leaves (whole (parts x.state) (with_peer m (record peer { pipe = line0 }) x.peers)) (on_conn m (with_unread []) s)) kn
       (readings number x.state.name.items [] none_leaves (whole (parts x.state) x.peers) s shows.read.turn.steps.shows peer k (Before []) peer.stays (λ j. []) (λ j. j.answer) shows.may.apart
       (record { linked = ap (λ (m : ℕ). find (is_number m) x.peers) kn ∙ due.linked; there = ap (λ (m : ℕ). conn s m) kn ∙ due.due.on.there; goes_on = due.due.on.goes_on })
-      (subst (λ (o : Option Answer). ShowsReading (Before []) [] o) (sym none) refl)))
+      (subst (λ (o : Option Answer). ShowsReading (Before []) [] o) (sym none) refl)
+      (subst (λ (o : Option Answer). ShowsStaying peer.stays o) (sym none) tt)))
 
   read0 : ShowsRead number none_leaves (with_pipe n line0 x.peers) shelf x.state then0
   unfolding on_conn
@@ -123,7 +125,6 @@ module _ (number : ℕ → ℕ) (shelf : KeptMap) (x : Both) (s : State) (n : �
         due = record { on = record { there = found_set n (with_unread []) s k (λ j. refl) due.due.on.there; goes_on = due.due.on.goes_on }; front = front0; whole = due.due.whole };
         none = due.none;
         linked = pipe_found n line0 x.peers ∙ ap (λ (o : Option Peer). option_map (with_line line0) o) due.linked;
-        asks = due.asks;
       };
     };
     to_is = sym same.0;
@@ -213,6 +214,12 @@ module _ (number : ℕ → ℕ) (shelf : KeptMap) (x next : Both) (s : State) (n
           one.feeds.within (λ is_head. subst (λ (t : Step). IsUsed t (length (b ∷ bytes)) one.told.0) is_head one.feeds.uses)
           (λ from to is_body. let uses = subst (λ (t : Step). IsUsed t (length (b ∷ bytes)) one.told.0) is_body one.feeds.uses in omega (arith, uses.0, uses.1)) one.leaves
 
+  bounded : IsBounded next.state.cache
+  bounded = by (subst (λ (o : Option Peer). IsStepOn o shelf n (remaining (b ∷ bytes) []) x next behind) goes on)
+    where
+      by : IsStep shelf n peer (remaining (b ∷ bytes) []) x next behind → IsBounded next.state.cache
+      by one = one.bounded
+
   stops : behind ≡ None → Result
   stops none = by (heads_got number shelf x next s n k e peer b bytes behind shows due amid on)
     where
@@ -234,6 +241,7 @@ module _ (number : ℕ → ℕ) (shelf : KeptMap) (x next : Both) (s : State) (n
           left = it.left;
           read = it.read;
           came = subst (λ (y : Both). HeadCame shelf n y next) both_same it.came;
+          bounded = bounded;
           rest = drop it.head.length text;
           less = past.less;
           leaves = it.leaves;

@@ -29,8 +29,8 @@ use Rattle.pp_state.specs.declared.state.State.{State as Turn}
 use Rattle.pp_states_law.proofs.Framed.{states}
 use Rattle.pp_states_law.proofs.Lines.{IsOn, found_on, same_itself}
 use Rattle.pp_states_law.specs.Frames.{IsSameState}
-use Rattle.pp_steps_law.specs.Steps.{ShowsSteps, whole}
-use Rattle.pp_steps_law.specs.Told.{AreTold}
+use Rattle.pp_states_law.specs.Steps.{ShowsSteps, whole}
+use Rattle.pp_states_law.specs.Told.{AreTold}
 use Rattle.pp_text.specs.Bytes.{is_empty}
 use Rattle.pp_reads_law.proofs.Fronts.{IsFront, is_front}
 use Rattle.pp_reads_law.specs.Bads.{IsOpen}

@@ -1,8 +1,8 @@
 -- What comes before any of a line was asked whole is refused as by the law.
 use Rattle.std.proofs.Common.{◌≡◌, sym, subst, ap, ap₂, ◌∙◌, Bool, true, false, cond, find, List, [], ◌∷◌, ◌++◌, Option, Some, None}
 use Rattle.pp_cache_law.proofs.Numbers.{some_is}
-use Rattle.pp_closings_law.proofs.Peers.{HasPeer, linked}
-use Rattle.pp_closings_law.specs.Sides.{ShowsSides}
+use Rattle.pp_turns_law.proofs.Peers.{HasPeer, linked}
+use Rattle.pp_turns_law.specs.Sides.{ShowsSides}
 use Rattle.pp_desk.specs.Closings.{Sides}
 use Rattle.pp_law.specs.Connections.{close_conn}
 use Rattle.pp_law.specs.Responses.{Piece, head_piece_of}

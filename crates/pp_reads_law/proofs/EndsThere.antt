@@ -4,8 +4,8 @@ use Rattle.std.proofs.lemmas.Bool.Decides.{nat_tests}
 use Rattle.std.specs.Prelude.{count_by, nat_le, slice_range}
 use Rattle.pp_cache_law.proofs.Finds.{find_passes}
 use Rattle.pp_cache_law.proofs.Numbers.{some_is}
-use Rattle.pp_closings_law.proofs.Peers.{HasPeer, linked}
-use Rattle.pp_closings_law.specs.Sides.{AreOrderly, MayClose, ShowsSides}
+use Rattle.pp_turns_law.proofs.Peers.{HasPeer, linked}
+use Rattle.pp_turns_law.specs.Sides.{AreOrderly, MayClose, ShowsSides}
 use Rattle.pp_desk.specs.Closings.{Sides}
 use Rattle.pp_endings_law.proofs.GoneShort.{found_set, go_as, set_conns}
 use Rattle.pp_flow_law.proofs.Entries.{same_number}
@@ -19,8 +19,9 @@ use Rattle.pp_law.specs.Closing.{is_of}
 use Rattle.pp_law.specs.Connections.{conn, exchange, front_of_line, is_conn, is_exchange, on_conn}
 use Rattle.pp_law.specs.Lists.{Bytes}
 use Rattle.pp_law.specs.Responses.{answer_with, answered_by, bring_row, end_if_empty, finish, head_came, payload_of}
-use Rattle.pp_law.specs.State.{State, Answer, Conn, Exchange}
-use Rattle.pp_origins.specs.Gots.{Both, IsStep, IsStepOn, Remains, TakesStep, going_on, left_behind, remaining, sides_of}
+use Rattle.pp_law.specs.State.{State, Answer, Client, Conn, Exchange}
+use Rattle.pp_laws.specs.Runs.{IsIn}
+use Rattle.pp_origins.specs.Gots.{Both, IsStep, IsStepOn, Makes, Remains, TakesStep, going_on, left_behind, remaining, sides_of}
 use Rattle.pp_origins.specs.Responses.{response_whole}
 use Rattle.pp_peers.specs.Peers.{is_number, with_pipe}
 use Rattle.pp_peers.specs.declared.peers.Peer.{Peer}
@@ -37,6 +38,7 @@ use Rattle.pp_pipe.specs.declared.step.Step.TheVariants.{Head, Body as BodyStep,
 use Rattle.pp_state.specs.Ends.{parts}
 use Rattle.pp_state.specs.declared.state.State.{State as Turn}
 use Rattle.pp_store.specs.Kept.{KeptMap}
+use Rattle.pp_reads_law.proofs.AllGoing.{heads_let_go}
 use Rattle.pp_reads_law.proofs.Amid.{set_may}
 use Rattle.pp_reads_law.proofs.Brings.{IsBeside, beside_brought}
 use Rattle.pp_reads_law.proofs.Fronts.{IsFront, is_front}
@@ -44,7 +46,8 @@ use Rattle.pp_reads_law.proofs.WholeOnes.{wholes}
 use Rattle.pp_reads_law.specs.Bads.{piped}
 use Rattle.pp_reads_law.specs.Heads.{HeadIsDue, HeadIsTaken, begun_by}
 use Rattle.pp_reads_law.specs.Wholes.{IsAnsweredOn, line_behind}
-use Rattle.pp_reads_law.proofs.Behind.{ends_alike, heads_note}
+use Rattle.pp_reads_law.proofs.Behind.{ends_alike}
+use Rattle.pp_reads_law.proofs.BehindFilling.{heads_note}
 use Rattle.pp_reads_law.specs.Empties.{EmptyBodiesEndAsTheLaws, EndsAtOnce, IsBehindHead, MayEnd, going_to}
 
 -- ---- a body that ends before its first byte is empty, whatever follows
@@ -96,7 +99,7 @@ amid_payload (Within response place) a bytes left came shows = ((read_from place
 amid_payload Closed a bytes left came shows = absurd shows
 amid_payload Broken a bytes left came shows = absurd shows
 
-module _ (shelf : KeptMap) (x y : Both) (s : State) (n : ℕ) (k : Conn) (e : Exchange) (peer : Peer) (head : Response) (rule : BodyRule) (closes : MayClose s) (due : HeadIsDue x s n k e peer) (it : HeadIsTaken y s n k e head rule) (may : MayEnd s k e head rule) where
+module _ (before : ℕ → ℕ) (shelf : KeptMap) (x y : Both) (s : State) (n : ℕ) (k : Conn) (e : Exchange) (peer : Peer) (head : Response) (rule : BodyRule) (closes : MayClose s) (due : HeadIsDue x s n k e peer) (it : HeadIsTaken before x y s n k e head rule) (may : MayEnd s k e head rule) where
   abbrev a : Answer
   a = answer_with e head rule
 
@@ -130,10 +133,10 @@ module _ (shelf : KeptMap) (x y : Both) (s : State) (n : ℕ) (k : Conn) (e : Ex
   known_begun = ap (λ (es : List Exchange). find (is_exchange e.number) es) ((set_conns k.number (answered_by a) brought).1 ∙ beside.exchanges) ∙ first.known
 
   headed : IsBehindHead e begun t
-  headed = heads_note begun e head rule may.aim known_begun
+  headed = heads_note begun e head rule (λ filling c among asks. may.passed filling c (subst (λ (cs : List Client). IsIn c cs) ((set_conns k.number (answered_by a) brought).2 ∙ beside.clients) among) asks) known_begun
 
   abbrev e1 : Exchange
-  e1 = going_to headed.body e
+  e1 = going_to headed.asker headed.body e
 
   conn_begun : conn begun n ≡ Some k1
   conn_begun =
@@ -162,7 +165,7 @@ module _ (shelf : KeptMap) (x y : Both) (s : State) (n : ℕ) (k : Conn) (e : Ex
     may = record {
       apart = λ m. subst (λ (ks : List Conn). count_by (is_conn m) ks ≤ 1) (sym headed.conns) (closes_begun.apart m);
       orderly = subst (λ (ks : List Conn). AreOrderly ks) (sym headed.conns) closes_begun.orderly;
-      go = may.go;
+      go = heads_let_go k e head rule s closes.go;
     };
   }
 
@@ -176,7 +179,6 @@ module _ (shelf : KeptMap) (x y : Both) (s : State) (n : ℕ) (k : Conn) (e : Ex
     };
     answer = refl;
     linked = it.linked;
-    stays = it.stays;
     pipelines = may.pipelines;
   }
 
@@ -203,10 +205,11 @@ module _ (shelf : KeptMap) (x y : Both) (s : State) (n : ℕ) (k : Conn) (e : Ex
     law : head_came k head s ≡ finish k1 e1 a t
     unfolding end_if_empty finish
     law =
-        it.law ∙ ap (λ (o : Outcome). elim o as (λ u. State) [ Done r ↦ finish k e a t | Going ↦ t | NoBody ↦ t ]) empty ∙ sym (ends_alike k e headed.body a t)
+        it.law ∙ ap (λ (o : Outcome). elim o as (λ u. State) [ Done r ↦ finish k e a t | Going ↦ t | NoBody ↦ t ]) empty ∙ sym (ends_alike k e headed.asker headed.body a t headed.client)
 
+    -- and by the program the response is whole
     abbrev Result : Type 0
-    Result = EndsAtOnce it.number next s k head rest behind
+    Result = EndsAtOnce it.number next s k head rest behind × ((fed : List Peer) × Makes (response_whole n) (record y { peers = fed }) next)
 
     body_is : body_of a.rule rest ≡ no_data (Done rest)
     body_is = empty_is rule over empty rest
@@ -221,14 +224,16 @@ module _ (shelf : KeptMap) (x y : Both) (s : State) (n : ℕ) (k : Conn) (e : Ex
         nothing : (more : Bytes) → (body_of rule (rest ++ [])).payload ≡ payload_of a ++ slice_range rest from to ++ more → [] ≡ slice_range rest from to ++ more
         nothing more payload =
             ap (λ (b : Delimited). b.payload) (sym (empty_is rule over empty (rest ++ []))) ∙ payload ∙ ap (λ (b : Delimited). b.payload ++ slice_range rest from to ++ more) (empty_is rule over empty [])
-    by_step used End left fed within read is takes leaves =
-        record {
-          leaves = leaves ∙ ap (λ (bs : Bytes). let r : Remains = remaining bs [] in Some r) follows;
-          shows =
-              subst (λ (z : Sides). ShowsSides it.number name z (head_came k head s)) (sym program)
-              (subst (λ (u : State). ShowsSides it.number name (response_whole n (piped n (line_behind a it.peer) (sides_of y))) u) (sym law)
-              (wholes it.number name (sides_of y) t shows_there n k1 a it.peer e1 answered_there front_there));
-        }
+    by_step used End left fed within read is takes leaves = (
+      record {
+        leaves = leaves ∙ ap (λ (bs : Bytes). let r : Remains = remaining bs [] in Some r) follows;
+        shows =
+            subst (λ (z : Sides). ShowsSides it.number name z (head_came k head s)) (sym program)
+            (subst (λ (u : State). ShowsSides it.number name (response_whole n (piped n (line_behind a it.peer) (sides_of y))) u) (sym law)
+            (wholes it.number name (sides_of y) t shows_there n k1 a it.peer e1 answered_there front_there));
+      },
+      (fed, subst (λ (q : Turn). Makes (response_whole n) (record y { state = q; peers = fed }) next) takes.delivers takes.makes),
+    )
       where
         done_is : {p : Bytes} {r : Bytes} → record { payload = p; outcome = Done r } ≡ no_data (Done rest) → r ≡ rest
         done_is {p} {r} one = outcome_is (ap (λ (b : Delimited). b.outcome) one)
@@ -253,7 +258,7 @@ module _ (shelf : KeptMap) (x y : Both) (s : State) (n : ℕ) (k : Conn) (e : Ex
         not_over : {p : Bytes} → no_data (Done rest) ≡ record { payload = p; outcome = Going } → ⊥
         not_over same = absurd (cc (ap (λ (b : Delimited). b.outcome) same))
 
-    ends_there : IsStepOn (going_on (find (is_number n) y.peers)) shelf n (remaining rest []) y next behind → Result
+    pub ends_there : IsStepOn (going_on (find (is_number n) y.peers)) shelf n (remaining rest []) y next behind → Result
     ends_there on = by (subst (λ (o : Option Peer). IsStepOn o shelf n (remaining rest []) y next behind) goes on)
       where
         by : IsStep shelf n it.peer (remaining rest []) y next behind → Result
@@ -262,4 +267,4 @@ module _ (shelf : KeptMap) (x y : Both) (s : State) (n : ℕ) (k : Conn) (e : Ex
             (bodies a pipe.reading rest rest [] (awaited pipe.asks) one.told.0 one.told.1 one.feeds.left (reads_begin pipe.reading [] rest a reads) one.feeds.fed) one.feeds.leaves one.takes one.leaves
 
 pub empties_end : EmptyBodiesEndAsTheLaws
-empties_end shelf x y next s n k e peer head rule over rest behind closes due it may empty on = ends_there shelf x y s n k e peer head rule closes due it may next over rest behind empty on
+empties_end before shelf x y next s n k e peer head rule over rest behind closes due it may empty on = (ends_there before shelf x y s n k e peer head rule closes due it may next over rest behind empty on).0

@@ -2,7 +2,7 @@
 use Rattle.std.proofs.Common.{◌≡◌, ◌≤◌, ◌<◌, sym, subst, ap, ◌∙◌, ℕ, false, length, List, [], ◌∷◌, ◌++◌, Option, None}
 use Rattle.std.specs.Prelude.{vec_capacity}
 use Rattle.pp_cache.specs.Bounds.{IsBounded}
-use Rattle.pp_closings_law.proofs.Peers.{HasPeer, linked}
+use Rattle.pp_turns_law.proofs.Peers.{HasPeer, linked}
 use Rattle.pp_desk.specs.declared.desk.Desk.{Desk}
 use Rattle.pp_events_law.proofs.Alike.{AreAlike, WasAlike}
 use Rattle.pp_events_law.proofs.ReadWhole.{settled_as}

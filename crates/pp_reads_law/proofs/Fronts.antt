@@ -3,7 +3,7 @@ use Rattle.std.proofs.Common.{◌≡◌, refl, sym, ap, ◌∙◌, ℕ, List, []
 use Rattle.pp_flow_law.proofs.Entries.{none_some}
 use Rattle.pp_law.specs.Connections.{exchange, front_of_line}
 use Rattle.pp_law.specs.State.{State, Conn, Exchange}
-use Rattle.pp_steps_law.proofs.Charged.{number_is}
+use Rattle.pp_states_law.proofs.Charged.{number_is}
 
 pub record IsFront (s : State) (k : Conn) (e : Exchange) : Type 0 where
   pub others : List ℕ

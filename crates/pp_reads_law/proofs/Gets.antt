@@ -1,9 +1,9 @@
 -- Bytes came of an origin: they are got as by the law, and the turn stands behind them.
 use Rattle.std.proofs.Common.{◌≡◌, ◌≤◌, refl, sym, subst, ap, ◌∙◌, ℕ, false, length, map, List, [], Some, arith}
 use Rattle.pp_cache.specs.Bounds.{IsBounded}
-use Rattle.pp_closings_law.specs.Sides.{ShowsSides}
-use Rattle.pp_decides_law.proofs.Sitting.{is_at, shown_at}
-use Rattle.pp_decides_law.specs.Useless.{AllFollow}
+use Rattle.pp_turns_law.specs.Sides.{ShowsSides}
+use Rattle.pp_turns_law.proofs.Sitting.{is_at, shown_at}
+use Rattle.pp_turns_law.specs.Useless.{AllFollow}
 use Rattle.pp_desk.specs.Closings.{Sides, peer_numbers, sides}
 use Rattle.pp_desk.specs.Replies.{EndsReplies}
 use Rattle.pp_desk.specs.declared.desk.Desk.{Desk}
@@ -77,6 +77,9 @@ module _ (comes : HeadsComeAsTheLaws) (terms : List Term) (log : Log) (number0 :
     stopped = knows.stopped ∙ stands.desk.turn.stopped;
   }
 
+  bounded_first : IsBounded begins.state.cache
+  bounded_first = subst (λ (w : Sides). IsBounded w.parts.cache) (sym same.is) stands.desk.turn.bounded
+
   next_calm : next.state.is_astray ≡ false
   next_calm = replies_calm next.state.awake.items (sides_of next) (sides new) behind.is calm
 
@@ -91,8 +94,8 @@ module _ (comes : HeadsComeAsTheLaws) (terms : List Term) (log : Log) (number0 :
 
   pub read : IsRead name next v
   read =
-      read_whole comes name x.shelf k next (Moment name x.shelf k begins s bytes words knows.name next next_calm rests) (supplies name x.shelf k begins s bytes words knows.name next next_calm rests) 65600 number0 begins s bytes
-      (first name x.shelf k begins s bytes words knows.name next next_calm rests leads number0 shown_begins) shown_begins (omega (arith, few)) has_got
+      read_whole comes name x.shelf k next (Moment name x.shelf k begins s bytes words knows.name bounded_first next next_calm rests) (supplies name x.shelf k begins s bytes words knows.name bounded_first next next_calm rests) 65600 number0 begins s bytes
+      (first name x.shelf k begins s bytes words knows.name bounded_first next next_calm rests leads number0 shown_begins) shown_begins (omega (arith, few)) has_got
 
   abbrev pub number : ℕ → ℕ
   number = read.number

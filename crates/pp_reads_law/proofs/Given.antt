@@ -21,8 +21,8 @@ use Rattle.pp_seats.specs.declared.seat.Seat.{Seat}
 use Rattle.pp_seats.specs.declared.seat.Stage.{Stage}
 use Rattle.pp_seats.specs.declared.seat.Stage.TheVariants.{Answering, Passing, Undecided, Waiting}
 use Rattle.pp_seats_law.specs.Exchanges.{Binding, ShowsExchange}
-use Rattle.pp_steps_law.proofs.Told.{told_of}
-use Rattle.pp_steps_law.specs.Told.{AreTold, EachIsTold, IsTold, IsToldBy}
+use Rattle.pp_states_law.proofs.Told.{told_of}
+use Rattle.pp_states_law.specs.Told.{AreTold, EachIsTold, IsTold, IsToldBy}
 use Rattle.pp_turns_law.proofs.Numbered.{AreGivenLives, AreSame, exchange_as}
 
 -- ---- one more

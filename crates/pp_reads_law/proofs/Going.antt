@@ -4,7 +4,7 @@ use Rattle.std.specs.Prelude.{count_by, option_map}
 use Rattle.pp_cache_law.proofs.Finds.{find_mapped}
 use Rattle.pp_cache_law.proofs.Numbers.{some_is}
 use Rattle.pp_cache_law.proofs.PairLemmas.{count_mapped_same}
-use Rattle.pp_closings_law.specs.Sides.{AreOrderly, MayClose}
+use Rattle.pp_turns_law.specs.Sides.{AreOrderly, MayClose}
 use Rattle.pp_flow_law.proofs.Entries.{none_some}
 use Rattle.pp_law.specs.Chunks.{joined, note_use}
 use Rattle.pp_law.specs.Closing.{is_of}
@@ -18,8 +18,8 @@ use Rattle.pp_law.specs.State.{State, Answer, Aim, Own, Through, Filling, Bound,
 use Rattle.pp_law.specs.Table.{extent_of, instance}
 use Rattle.pp_pass.specs.Pipe.{Pipe, with_data}
 use Rattle.pp_peers_law.proofs.Finds.{find_there}
-use Rattle.pp_steps_law.specs.Charges.{GoesOn}
-use Rattle.pp_steps_law.specs.Losses.{IsComing}
+use Rattle.pp_states_law.specs.Charges.{GoesOn}
+use Rattle.pp_states_law.specs.Losses.{IsComing}
 use Rattle.pp_text.specs.Bytes.{is_empty}
 
 record Was {A : Type 0} (h : A → A) (o : Option A) (d : A) : Type 0 where

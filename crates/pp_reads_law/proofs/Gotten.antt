@@ -3,8 +3,8 @@ use Rattle.std.proofs.Common.{◌≡◌, ◌⊎◌, inl, inr, refl, sym, subst, 
 use Rattle.std.specs.Prelude.{option_map}
 use Rattle.pp_cache_law.proofs.Finds.{find_passes}
 use Rattle.pp_cache_law.proofs.Numbers.{some_is}
-use Rattle.pp_closings_law.proofs.Peers.{HasPeer, linked}
-use Rattle.pp_closings_law.specs.Sides.{ShowsSides}
+use Rattle.pp_turns_law.proofs.Peers.{HasPeer, linked}
+use Rattle.pp_turns_law.specs.Sides.{ShowsSides}
 use Rattle.pp_desk.specs.Closings.{Sides}
 use Rattle.pp_endings_law.proofs.GoneShort.{found_set}
 use Rattle.pp_endings_law.proofs.Pipes.{pipe_found, with_line}
@@ -20,7 +20,7 @@ use Rattle.pp_origins.specs.Gots.{Both, HeadCame, IsStepOn, Remains, going_on, r
 use Rattle.pp_origins.specs.Responses.{bad_response}
 use Rattle.pp_peers.specs.Peers.{is_number, with_peer, with_pipe}
 use Rattle.pp_peers.specs.declared.peers.Peer.{Peer}
-use Rattle.pp_peers_law.specs.Peers.{ShowsReading}
+use Rattle.pp_peers_law.specs.Peers.{ShowsReading, ShowsStaying}
 use Rattle.pp_pipe.specs.Line.{Line}
 use Rattle.pp_pipe.specs.Reading.{Reading, Before}
 use Rattle.pp_state.specs.Ends.{parts}
@@ -30,7 +30,7 @@ use Rattle.pp_states_law.proofs.GotOn.{gots}
 use Rattle.pp_states_law.proofs.ReadOn.{readings}
 use Rattle.pp_states_law.specs.Gots.{IsAmidHead}
 use Rattle.pp_states_law.specs.States.{ShowsState}
-use Rattle.pp_steps_law.specs.Steps.{ShowsSteps, whole}
+use Rattle.pp_states_law.specs.Steps.{ShowsSteps, whole}
 use Rattle.pp_store.specs.Kept.{KeptMap}
 use Rattle.pp_text.specs.Bytes.{is_empty}
 use Rattle.pp_reads_law.proofs.Amid.{pipe_twice, set_may}
@@ -91,7 +91,8 @@ module _ (number : ℕ → ℕ) (shelf : KeptMap) (x : Both) (s : State) (n : �
       (subst (λ (m : ℕ). ShowsState number x.state.name.items [] none_leaves (whole (parts x.state) (with_peer m (record peer { pipe = line0 }) x.peers)) (on_conn m (with_unread []) s)) kn
       (readings number x.state.name.items [] none_leaves (whole (parts x.state) x.peers) s shows.read.turn.steps.shows peer k (Before []) peer.stays (λ j. []) (λ j. j.answer) shows.may.apart
       (record { linked = ap (λ (m : ℕ). find (is_number m) x.peers) kn ∙ due.linked; there = ap (λ (m : ℕ). conn s m) kn ∙ due.due.on.there; goes_on = due.due.on.goes_on })
-      (subst (λ (o : Option Answer). ShowsReading (Before []) [] o) (sym none) refl)))
+      (subst (λ (o : Option Answer). ShowsReading (Before []) [] o) (sym none) refl)
+      (subst (λ (o : Option Answer). ShowsStaying peer.stays o) (sym none) tt)))
 
   read0 : ShowsRead number none_leaves (with_pipe n line0 x.peers) shelf x.state then0
   unfolding on_conn
@@ -134,7 +135,6 @@ module _ (number : ℕ → ℕ) (shelf : KeptMap) (x : Both) (s : State) (n : �
           due = record { on = record { there = found_set n (with_unread []) s k (λ j. refl) due.due.on.there; goes_on = due.due.on.goes_on }; front = front0; whole = due.due.whole };
           none = due.none;
           linked = pipe_found n line0 x.peers ∙ ap (λ (o : Option Peer). option_map (with_line line0) o) due.linked;
-          asks = due.asks;
         };
         pipes = λ line. pipe_twice n line0 line x.peers;
         reads = λ left. refl;

@@ -1,14 +1,15 @@
 -- The final head of a response is taken, or refused, as by the law.
-use Rattle.std.proofs.Common.{◌≡◌, ◌≤◌, ◌⊎◌, inl, inr, refl, sym, subst, ap, ap₂, ◌∙◌, ℕ, Bool, true, false, not, ◌&&◌, ◌||◌, find, List, [], ◌∷◌, Option, Some, None, Result, Ok, Err, option_map, arith}
-use Rattle.std.specs.Prelude.{count_by, is_ok, nat_le, nat_lt, option_and_then, slice_get}
+use Rattle.std.proofs.Common.{◌≡◌, ◌≤◌, inl, inr, refl, sym, subst, ap, ap₂, ◌∙◌, ℕ, Bool, true, false, not, ◌&&◌, ◌||◌, find, List, [], ◌∷◌, Option, Some, None, Result, Ok, Err, option_map, arith}
+use Rattle.std.specs.Prelude.{count_by, is_ok, is_some, nat_le, nat_lt, option_and_then, slice_get}
 use Rattle.pp_answers.specs.FinalHeads.{AnswersAsk, TakesHead, answer_to, roomed_by, rule_for}
+use Rattle.pp_answers_law.specs.Joined.{IsWhole}
 use Rattle.pp_answers_law.specs.Owns.{IsAtHead, IsShown}
-use Rattle.pp_answers_law.specs.Takes.{IsTaken as IsTakenBySteps, OwnAnswersAreTheLaws, PassedAnswersAreTheLaws, PassesAlone, RulesAreTheLaws, law_rule}
+use Rattle.pp_answers_law.specs.Takes.{IsTaken as IsTakenBySteps, MayFill, MayPass, OwnAnswersAreTheLaws, PartAnswersAreTheLaws, PassedAnswersAreTheLaws, RulesAreTheLaws, law_rule}
 use Rattle.pp_cache_law.proofs.Finds.{find_passes}
 use Rattle.pp_cache_law.proofs.Numbers.{some_is}
 use Rattle.pp_cache_law.proofs.PairLemmas.{count_joined}
-use Rattle.pp_closings_law.proofs.Peers.{find_set}
-use Rattle.pp_closings_law.specs.Sides.{AreOrderly, MayClose, ShowsSides}
+use Rattle.pp_turns_law.proofs.Peers.{find_set}
+use Rattle.pp_turns_law.specs.Sides.{AreOrderly, MayClose, ShowsSides}
 use Rattle.pp_desk.specs.Closings.{Sides}
 use Rattle.pp_due.specs.Entering.{HasRowFor, MayCome, with_room_if_over}
 use Rattle.pp_endings_law.proofs.Pipes.{numbered, peer_over, pipe_found, with_line}
@@ -26,7 +27,8 @@ use Rattle.pp_law.specs.Connections.{close_conn, conn, exchange, is_client, is_c
 use Rattle.pp_law.specs.Lists.{Bytes, has_number}
 use Rattle.pp_law.specs.OwnHeads.{is_wrong_head}
 use Rattle.pp_law.specs.Responses.{answer_for, answer_with, answered_by, asks_head, bad_head, begin_answer, bring_row, by_aim, end_if_empty, head_came, is_readable}
-use Rattle.pp_law.specs.State.{State, Answer, Client, Conn, Exchange, Own}
+use Rattle.pp_law.specs.Stages.{filled_of}
+use Rattle.pp_law.specs.State.{State, Aim, Answer, Client, Conn, Exchange, Filling, Own, Through}
 use Rattle.pp_objects.specs.Instances.{Instance, is_row}
 use Rattle.pp_origins.specs.Gots.{Both, GoesOnBehind, HeadCame, HeadCameFor, IsTaken, IsTakenBy, Makes, head_on, sides_of, stays_by, staying}
 use Rattle.pp_origins.specs.Responses.{bad_response}
@@ -45,14 +47,21 @@ use Rattle.pp_state.specs.declared.state.State.{State as Turn}
 use Rattle.pp_states_law.proofs.Lines.{IsOn, found_on, same_itself}
 use Rattle.pp_states_law.proofs.ReadOn.{answers_begin}
 use Rattle.pp_states_law.specs.States.{ShowsState}
-use Rattle.pp_steps_law.proofs.Charged.{same_entry}
-use Rattle.pp_steps_law.specs.Charges.{IsFor}
-use Rattle.pp_steps_law.specs.Steps.{ShowsSteps, whole}
+use Rattle.pp_states_law.proofs.Charged.{same_entry}
+use Rattle.pp_states_law.specs.Charges.{IsFor}
+use Rattle.pp_states_law.specs.Steps.{ShowsSteps, whole}
 use Rattle.pp_store.specs.Kept.{KeptMap}
+use Rattle.pp_valid.specs.declared.version.Version.{Version}
 use Rattle.pp_reads_law.proofs.BadOnes.{bad_heads}
 use Rattle.pp_reads_law.proofs.Brings.{IsBeside, beside_brought, brings_beside}
+use Rattle.pp_reads_law.proofs.FillBeside.{fills_beside}
 use Rattle.pp_reads_law.proofs.Fronts.{IsFront, is_front}
+use Rattle.pp_laws_replies.proofs.Quiet.{facts_of, quiet_same}
+use Rattle.pp_laws_replies.proofs.QuietHeads.{by_aim-quiet}
+use Rattle.pp_states_law.proofs.Told.{conn_next}
+use Rattle.pp_reads_law.proofs.HeadsTold.{bad_head_grows, head_told, refused_told, row_told, whole_by_own, whole_by_through}
 use Rattle.pp_reads_law.proofs.RowsIn.{brought}
+use Rattle.pp_reads_law.specs.Told.{AllTold}
 use Rattle.pp_reads_law.specs.Amid.{IsAmidRead, ShowsRead}
 use Rattle.pp_reads_law.specs.Heads.{HeadIsDue, HeadIsRead, HeadIsRefused, HeadLeads, HeadsComeAsTheLaws, IsGivenBeside, IsGivenHead, MayAnswer, ShowsBoth, begun_by, with_head}
 use Rattle.pp_reads_law.specs.Rows.{MayMakeRoom}
@@ -136,7 +145,7 @@ head_there (Within response place) e head rule shows = ap (λ (r : Response). So
 head_there Closed e head rule shows = absurd shows
 head_there Broken e head rule shows = absurd shows
 
-module _ (rules : RulesAreTheLaws) (own_answers : OwnAnswersAreTheLaws) (passed_answers : PassedAnswersAreTheLaws) (number : ℕ → ℕ) (shelf : KeptMap) (x y : Both) (s : State) (n : ℕ) (k : Conn) (e : Exchange) (peer : Peer) (head : Response) (rule : BodyRule) (left : Reading) (shows : ShowsBoth number shelf x s) (due : HeadIsDue x s n k e peer) (read : HeadIsRead e head rule left) (may : MayAnswer s e head) where
+module _ (rules : RulesAreTheLaws) (own_answers : OwnAnswersAreTheLaws) (passed_answers : PassedAnswersAreTheLaws) (part_answers : PartAnswersAreTheLaws) (number : ℕ → ℕ) (shelf : KeptMap) (x y : Both) (s : State) (n : ℕ) (k : Conn) (e : Exchange) (peer : Peer) (head : Response) (rule : BodyRule) (left : Reading) (shows : ShowsBoth number shelf x s) (due : HeadIsDue x s n k e peer) (read : HeadIsRead e head rule left) (may : MayAnswer x.state s e head) where
   abbrev name : Bytes
   name = s.settings.name
 
@@ -178,14 +187,11 @@ module _ (rules : RulesAreTheLaws) (own_answers : OwnAnswersAreTheLaws) (passed_
   shown : ShowsExchange number entry e
   shown = same_entry number x.state.name.items none_leaves x.peers (parts x.state) s steps e.number entry e (record { here = here; there = first.known })
 
-  asks : entry.errand.asks_head ≡ asks_head e
-  asks = due.asks entry here
-
   readable : is_readable e head ≡ true
   readable = ap₂ (λ (b : Bool) (r : Result BodyRule ResponseFault). not b && is_ok r) read.final read.rule_is
 
   rule_so : rule_for entry.exchange entry.errand head ≡ law_rule e head
-  rule_so = rules number entry e head shown asks
+  rule_so = rules number entry e head shown
 
   law_rule_by : (b : Bool) → is_wrong_head e head ≡ b → law_rule e head ≡ (elim b as (λ o. Option BodyRule) [ true ↦ None | false ↦ Some rule ])
   law_rule_by b is =
@@ -217,21 +223,26 @@ module _ (rules : RulesAreTheLaws) (own_answers : OwnAnswersAreTheLaws) (passed_
 
   -- ---- it is refused
 
-  refuses : (number1 : ℕ → ℕ) (p between : Turn) → is_wrong_head e head ≡ true → ShowsRead number1 none_leaves x.peers shelf p beside → parts between ≡ parts p → sides_of y ≡ bad_response n (sides_of (record old { state = between })) → HeadIsRefused y s k head
-  refuses number1 p between is then same ends =
+  refuses : (number1 : ℕ → ℕ) (p between : Turn) → is_wrong_head e head ≡ true → ShowsRead number1 none_leaves x.peers shelf p beside → parts between ≡ parts p → sides_of y ≡ bad_response n (sides_of (record old { state = between })) → (AllTold number (parts x.state) s.next_instance → AllTold number1 (parts p) beside.next_instance) → HeadIsRefused number x y s k head
+  refuses number1 p between is then same ends begins =
       let kept : IsBeside s beside = beside_brought e head s in
+      let shown : ShowsSides number1 name (sides_of y) (head_came k head s) =
+      subst (λ (t : State). ShowsSides number1 name (sides_of y) t) (sym (law_wrong is))
+      (subst (λ (z : Sides). ShowsSides number1 name z (bad_head k beside)) (sym (ends ∙ ap (λ (q : Parts). let z : Sides = record { parts = q; peers = old.peers } in bad_response n z) same))
+      (bad_heads number1 name (record { parts = parts p; peers = x.peers }) beside
+      (record { steps = subst (λ (own : Bytes). ShowsSteps number1 own none_leaves x.peers (parts p) beside) (then.turn.name ∙ ap (λ c. c.name) kept.settings) then.turn.steps; may = may_beside s beside kept.clients kept.conns kept.exchanges shows.may }) n k e pipe
+      (record {
+        on = record { there = ap (λ (ks : List Conn). find (is_conn n) ks) kept.conns ∙ due.due.on.there; goes_on = due.due.on.goes_on };
+        front = ap (λ (es : List Exchange). elim k.line as (λ o. Option Exchange) [ [] ↦ None | m ∷ rest ↦ find (is_exchange m) es ]) kept.exchanges ∙ due.due.front;
+        whole = due.due.whole;
+      }) due.none)) in
       record {
         number = number1;
-        shows =
-            subst (λ (t : State). ShowsSides number1 name (sides_of y) t) (sym (law_wrong is))
-            (subst (λ (z : Sides). ShowsSides number1 name z (bad_head k beside)) (sym (ends ∙ ap (λ (q : Parts). let z : Sides = record { parts = q; peers = old.peers } in bad_response n z) same))
-            (bad_heads number1 name (record { parts = parts p; peers = x.peers }) beside
-            (record { steps = subst (λ (own : Bytes). ShowsSteps number1 own none_leaves x.peers (parts p) beside) (then.turn.name ∙ ap (λ c. c.name) kept.settings) then.turn.steps; may = may_beside s beside kept.clients kept.conns kept.exchanges shows.may }) n k e pipe
-            (record {
-              on = record { there = ap (λ (ks : List Conn). find (is_conn n) ks) kept.conns ∙ due.due.on.there; goes_on = due.due.on.goes_on };
-              front = ap (λ (es : List Exchange). elim k.line as (λ o. Option Exchange) [ [] ↦ None | m ∷ rest ↦ find (is_exchange m) es ]) kept.exchanges ∙ due.due.front;
-              whole = due.due.whole;
-            }) due.none));
+        shows = shown;
+        told = λ told.
+            refused_told number1 p (parts y.state) beside (head_came k head s) n old.peers then.turn.steps.shows.table.table shown.steps.shows.table.table
+            (ap (λ (z : Sides). z.parts) (ends ∙ ap (λ (q : Parts). let z : Sides = record { parts = q; peers = old.peers } in bad_response n z) same))
+            (subst (λ (t : State). beside.next_instance ≤ t.next_instance) (sym (law_wrong is)) (bad_head_grows k beside)) (begins told);
       }
 
   -- ---- the answer begins
@@ -248,7 +259,7 @@ module _ (rules : RulesAreTheLaws) (own_answers : OwnAnswersAreTheLaws) (passed_
   begins : ShowsState number x.state.name.items [] none_leaves (whole (parts x.state) last_peers) begun
   begins =
       subst (λ (m : ℕ). ShowsState number x.state.name.items [] none_leaves (whole (parts x.state) (with_peer m stayed x.peers)) begun) kn
-      (answers_begin number x.state.name.items [] none_leaves (whole (parts x.state) x.peers) s steps.shows peer k e head rule left (stays_open head) shows.may.apart
+      (answers_begin number x.state.name.items [] none_leaves (whole (parts x.state) x.peers) s steps.shows peer k e head rule left shows.may.apart
       (record { linked = ap (λ (m : ℕ). find (is_number m) x.peers) kn ∙ due.linked; there = ap (λ (m : ℕ). conn s m) kn ∙ due.due.on.there; goes_on = due.due.on.goes_on }) read.shows)
 
   begun_read : ShowsRead number none_leaves last_peers shelf x.state begun
@@ -292,7 +303,14 @@ module _ (rules : RulesAreTheLaws) (own_answers : OwnAnswersAreTheLaws) (passed_
   brings_is : by_aim e head rule brings ≡ begun_by k e head rule s
   brings_is = ap (λ (t : State). by_aim e head rule t) (brings_beside k.number (answered_by answer) e head s)
 
-  module _ (number1 : ℕ → ℕ) (p between : Turn) (then : ShowsRead number1 none_leaves last_peers shelf p brings) (flow : p.flow ≡ x.state.flow) where
+  begun_instances : begun.instances ≡ s.instances
+  unfolding on_conn
+  begun_instances = refl
+
+  module _ (number1 : ℕ → ℕ) (p between : Turn) (then : ShowsRead number1 none_leaves last_peers shelf p brings) (row : HasRowFor shelf (key_of e.number x.state.flow) x.state p) where
+    flow : p.flow ≡ x.state.flow
+    flow = row_flow shelf (key_of e.number x.state.flow) x.state p row
+
     kept : IsBeside begun brings
     kept = beside_brought e head begun
 
@@ -314,18 +332,26 @@ module _ (rules : RulesAreTheLaws) (own_answers : OwnAnswersAreTheLaws) (passed_
       key = may.key;
     }
 
-    takes : is_wrong_head e head ≡ false → between.refused ≡ [] → AnswersAsk e.number head (answer_to head (entry_of e.number p.flow)) p (parts between) → IsShown name none_leaves last_peers (parts between) (by_aim e head rule brings)
-    takes is given it = subst (λ (o : Option BodyRule). IsTakenBySteps name none_leaves last_peers p brings e head (parts between) o) (law_rule_by false is) (by may.aim)
+    passes_on : MayPass s e head → MayPass brings e head
+    passes_on pass = record {
+      client = λ goes. let one = pass.client goes in record { number = one.number; client = one.client; asker = one.asker; there = ap (λ (cs : List Client). find (is_client one.number) cs) same_clients ∙ one.there };
+      key = for_beside s brings e same_clients pass.key;
+      short = pass.short;
+    }
+
+    takes : is_wrong_head e head ≡ false → between.refused ≡ [] → between.is_astray ≡ false → AnswersAsk e.number head (answer_to head (entry_of e.number p.flow)) p (parts between) → IsShown number1 p.cache.lives brings.next_instance name none_leaves last_peers (parts between) (by_aim e head rule brings)
+    takes is given straight it = subst (λ (o : Option BodyRule). IsTakenBySteps number1 name none_leaves last_peers p brings e head (parts between) o) (law_rule_by false is) (by e.aim refl)
       where
-        by : (e.aim ≡ Own) ⊎ PassesAlone s e head → IsTakenBySteps name none_leaves last_peers p brings e head (parts between) (law_rule e head)
-        by (inl own) = own_answers number1 name none_leaves last_peers p brings e.number entry e head (parts between) at_head given asks own it
-        by (inr alone) =
-            passed_answers number1 name none_leaves last_peers p brings e.number entry e head (parts between) at_head given asks
-            (record {
-              aim = alone.aim;
-              places = alone.places;
-              client = λ goes. let one = alone.client goes in record { number = one.number; client = one.client; asker = one.asker; there = ap (λ (cs : List Client). find (is_client one.number) cs) same_clients ∙ one.there };
-            }) it
+        fills : is_some (filled_of e) ≡ true → MayFill p brings e
+        fills aim = fills_beside shelf (key_of e.number x.state.flow) number x.state p s begun e head shows.read.turn.steps.shows.table.table row begun_clients begun_instances aim (may.fills aim)
+
+        by : (a : Aim) → e.aim ≡ a → IsTakenBySteps number1 name none_leaves last_peers p brings e head (parts between) (law_rule e head)
+        by Own own = own_answers number1 name none_leaves last_peers p brings e.number entry e head (parts between) at_head given own it
+        by (Filling v from to) filling =
+            part_answers number1 name none_leaves last_peers p brings e.number entry e head (parts between) at_head given
+            (fills (ap (λ (a : Aim). is_some (elim a as (λ o. Option Version) [ Through ↦ None | Own ↦ None | Filling w i j ↦ Some w ])) filling)) it
+        by Through through =
+            passed_answers number1 name none_leaves last_peers p brings e.number entry e head (parts between) at_head given (record { aim = through; may = passes_on (may.passes through); straight = straight }) it
 
   answer_is : (p : Turn) → p.flow ≡ x.state.flow → (b : Bool) → is_wrong_head e head ≡ b → answer_to head (entry_of e.number p.flow) ≡ (elim b as (λ o. Option (Entry × BodyRule)) [ true ↦ None | false ↦ Some (entry, rule) ])
   answer_is p flow b is =
@@ -366,49 +392,67 @@ module _ (rules : RulesAreTheLaws) (own_answers : OwnAnswersAreTheLaws) (passed_
     taken : IsTakenBy (answer_to head (entry_of e.number p.flow)) e.number head stays p between
     taken = subst (λ (o : Option Response). IsTaken o e.number stays p between) its_head it.answers.taken
 
-    by_kind : (b : Bool) → is_wrong_head e head ≡ b → HeadLeads b y s n k e head rule
-    by_kind true is =
+    by_kind : y.state.is_astray ≡ false → (b : Bool) → is_wrong_head e head ≡ b → HeadLeads number b x y s n k e head rule
+    by_kind straight true is =
         let none_answers : answer_to head (entry_of e.number p.flow) ≡ None = answer_is p flow_same true is in
-        let one : IsAmidRead none_leaves x.peers shelf p beside = brought number none_leaves x.peers shelf x.state p s e.number entry e head shows.read may.room here shown readable it.row given.row given.bounded in
+        let one : IsAmidRead number x.state.cache.lives s.next_instance none_leaves x.peers shelf p beside = brought number none_leaves x.peers shelf x.state p s e.number entry e head shows.read may.room here shown readable it.row given.row it.bounded in
         refuses one.number p between is one.shows
         (subst (λ (o : Option (Entry × BodyRule)). AnswersAsk e.number head o p (parts between)) none_answers taken.is)
         (ends_none (taken.stays_is ∙ ap (λ (o : Option (Entry × BodyRule)). stays_by head o) none_answers))
+        (row_told number one.number shelf x.state p s beside e.number steps.shows.table.table one.shows.turn.steps.shows.table.table it.row one.keeps one.grows)
       where
         ends_none : stays ≡ None → sides_of y ≡ bad_response n (sides_of (record old { state = between }))
         ends_none gone = goes (subst (λ (o : Option Bool). GoesOnBehind o n (record old { state = between }) y) gone it.answers.goes_on)
           where
             goes : GoesOnBehind None n (record old { state = between }) y → sides_of y ≡ bad_response n (sides_of (record old { state = between }))
             goes makes = makes.is
-    by_kind false is =
+    by_kind straight false is =
         let answers : answer_to head (entry_of e.number p.flow) ≡ Some (entry, rule) = answer_is p flow_same false is in
-        let one : IsAmidRead none_leaves last_peers shelf p brings =
-        brought number none_leaves last_peers shelf x.state p begun e.number entry e head begun_read begun_room here shown readable it.row given.row given.bounded in
+        let one : IsAmidRead number x.state.cache.lives begun.next_instance none_leaves last_peers shelf p brings =
+        brought number none_leaves last_peers shelf x.state p begun e.number entry e head begun_read begun_room here shown readable it.row given.row it.bounded in
         let goes : y ≡ record old { state = between; peers = staying n (stays_open head) (find (is_number n) old.peers) old.peers } =
         goes_on (taken.stays_is ∙ ap (λ (o : Option (Entry × BodyRule)). stays_by head o) answers) in
         let peers : y.peers ≡ last_peers = ap (λ (z : Both). z.peers) goes ∙ peers_then in
         let state : y.state ≡ between = ap (λ (z : Both). z.state) goes in
-        let shown_then : IsShown name none_leaves last_peers (parts between) (by_aim e head rule brings) =
-        takes one.number p between one.shows flow_same is (ap (λ (q : Turn). q.refused) (sym state) ∙ none) taken.is in
+        let shown_then : IsShown one.number p.cache.lives brings.next_instance name none_leaves last_peers (parts between) (by_aim e head rule brings) =
+        takes one.number p between one.shows it.row is (ap (λ (q : Turn). q.refused) (sym state) ∙ none) (ap (λ (q : Turn). q.is_astray) (sym state) ∙ straight) taken.is in
         record {
           number = shown_then.number;
           shows =
               subst (λ (ps : List Peer). ShowsSteps shown_then.number name none_leaves ps (parts y.state) (begun_by k e head rule s)) (sym peers)
               (subst (λ (q : Turn). ShowsSteps shown_then.number name none_leaves last_peers (parts q) (begun_by k e head rule s)) (sym state)
               (subst (λ (t : State). ShowsSteps shown_then.number name none_leaves last_peers (parts between) t) brings_is shown_then.shows));
+          told = λ own told.
+              subst (λ (t : State). AllTold shown_then.number (parts y.state) t.next_instance) brings_is
+              (subst (λ (q : Turn). AllTold shown_then.number (parts q) (by_aim e head rule brings).next_instance) (sym state)
+              (head_told one.number shown_then.number p between brings (by_aim e head rule brings) e.number entry head rule one.shows.turn.steps.shows.table.table shown_then.shows.shows.table.table (whole own)
+              (subst (λ (o : Option (Entry × BodyRule)). AnswersAsk e.number head o p (parts between)) answers taken.is) shown_then.keeps (facts_of (by_aim-quiet e head rule brings (quiet_same brings))).next
+              (row_told number one.number shelf x.state p begun brings e.number begun_read.turn.steps.shows.table.table one.shows.turn.steps.shows.table.table it.row one.keeps one.grows
+              (subst (λ (m : ℕ). AllTold number (parts x.state) m) (sym (conn_next k.number (answered_by answer) s)) told))));
           peer = stayed;
           linked = ap (λ (ps : List Peer). find (is_number n) ps) peers ∙ stayed_there;
           stays = refl;
           law = law_right is;
         }
       where
+        whole : is_some (filled_of e) ≡ false → IsWhole entry.exchange.aim
+        whole none = by e.aim refl
+          where
+            by : (a : Aim) → e.aim ≡ a → IsWhole entry.exchange.aim
+            by Own own = whole_by_own entry.exchange.aim (shown.aim ∙ own)
+            by Through through = whole_by_through entry.exchange.aim (shown.aim ∙ through)
+            by (Filling v from to) filling =
+                let both : true ≡ false = sym (ap (λ (a : Aim). is_some (elim a as (λ o. Option Version) [ Through ↦ None | Own ↦ None | Filling w i j ↦ Some w ])) filling) ∙ none in
+                absurd (cc both)
+
         goes_on : stays ≡ Some (stays_open head) → y ≡ record old { state = between; peers = staying n (stays_open head) (find (is_number n) old.peers) old.peers }
         goes_on is_it = subst (λ (o : Option Bool). GoesOnBehind o n (record old { state = between }) y) is_it it.answers.goes_on
 
     pub taken_head : is_wrong_head e head ≡ false → TakenHead shelf x y s k e head rule
     taken_head is =
         let answers : answer_to head (entry_of e.number p.flow) ≡ Some (entry, rule) = answer_is p flow_same false is in
-        let one : IsAmidRead none_leaves last_peers shelf p brings =
-        brought number none_leaves last_peers shelf x.state p begun e.number entry e head begun_read begun_room here shown readable it.row given.row given.bounded in
+        let one : IsAmidRead number x.state.cache.lives begun.next_instance none_leaves last_peers shelf p brings =
+        brought number none_leaves last_peers shelf x.state p begun e.number entry e head begun_read begun_room here shown readable it.row given.row it.bounded in
         let goes : y ≡ record old { state = between; peers = staying n (stays_open head) (find (is_number n) old.peers) old.peers } =
         subst (λ (o : Option Bool). GoesOnBehind o n (record old { state = between }) y) (taken.stays_is ∙ ap (λ (o : Option (Entry × BodyRule)). stays_by head o) answers) it.answers.goes_on in
         let state : y.state ≡ between = ap (λ (z : Both). z.state) goes in
@@ -418,7 +462,7 @@ module _ (rules : RulesAreTheLaws) (own_answers : OwnAnswersAreTheLaws) (passed_
           law = brings;
           number = one.number;
           peers = last_peers;
-          at = at_head one.number p between one.shows flow_same;
+          at = at_head one.number p between one.shows it.row;
           row = it.row;
           brought = refl;
           forgotten = one.shows.forgotten;
@@ -430,7 +474,7 @@ module _ (rules : RulesAreTheLaws) (own_answers : OwnAnswersAreTheLaws) (passed_
     pub refused_head : is_wrong_head e head ≡ true → RefusedHead shelf x y s n k e head
     refused_head is =
         let none_answers : answer_to head (entry_of e.number p.flow) ≡ None = answer_is p flow_same true is in
-        let one : IsAmidRead none_leaves x.peers shelf p beside = brought number none_leaves x.peers shelf x.state p s e.number entry e head shows.read may.room here shown readable it.row given.row given.bounded in
+        let one : IsAmidRead number x.state.cache.lives s.next_instance none_leaves x.peers shelf p beside = brought number none_leaves x.peers shelf x.state p s e.number entry e head shows.read may.room here shown readable it.row given.row it.bounded in
         let makes : Makes (bad_response n) (record old { state = between }) y =
         subst (λ (o : Option Bool). GoesOnBehind o n (record old { state = between }) y) (taken.stays_is ∙ ap (λ (o : Option (Entry × BodyRule)). stays_by head o) none_answers) it.answers.goes_on in
         let same : parts between ≡ parts p = subst (λ (o : Option (Entry × BodyRule)). AnswersAsk e.number head o p (parts between)) none_answers taken.is in
@@ -448,15 +492,15 @@ module _ (rules : RulesAreTheLaws) (own_answers : OwnAnswersAreTheLaws) (passed_
           law_is = law_wrong is;
         }
 
-  leads : (o : Option ℕ) → o ≡ Some e.number → (it : HeadCameFor o shelf n old y) → IsGivenHead o shelf n old y it → y.state.refused ≡ [] → HeadLeads (is_wrong_head e head) y s n k e head rule
-  leads None is it given none = absurd (none_some e.number is)
-  leads (Some m) is it given none = at m (some_is m e.number is) it given
+  leads : (o : Option ℕ) → o ≡ Some e.number → (it : HeadCameFor o shelf n old y) → IsGivenHead o shelf n old y it → y.state.refused ≡ [] → y.state.is_astray ≡ false → HeadLeads number (is_wrong_head e head) x y s n k e head rule
+  leads None is it given none straight = absurd (none_some e.number is)
+  leads (Some m) is it given none straight = at m (some_is m e.number is) it given
     where
-      at : (m : ℕ) → m ≡ e.number → (it : HeadCameFor (Some m) shelf n old y) → IsGivenBeside shelf n m old y it → HeadLeads (is_wrong_head e head) y s n k e head rule
-      at m same = subst (λ (m : ℕ). (it : HeadCameFor (Some m) shelf n old y) → IsGivenBeside shelf n m old y it → HeadLeads (is_wrong_head e head) y s n k e head rule) (sym same) (λ it given. by_kind it given none (is_wrong_head e head) refl)
+      at : (m : ℕ) → m ≡ e.number → (it : HeadCameFor (Some m) shelf n old y) → IsGivenBeside shelf n m old y it → HeadLeads number (is_wrong_head e head) x y s n k e head rule
+      at m same = subst (λ (m : ℕ). (it : HeadCameFor (Some m) shelf n old y) → IsGivenBeside shelf n m old y it → HeadLeads number (is_wrong_head e head) x y s n k e head rule) (sym same) (λ it given. by_kind it given none straight (is_wrong_head e head) refl)
 
-  pub comes : (it : HeadCame shelf n old y) → IsGivenHead (first_on n (parts x.state)) shelf n old y it → y.state.refused ≡ [] → HeadLeads (is_wrong_head e head) y s n k e head rule
-  comes it given none = leads (first_on n (parts x.state)) (ap (λ (ns : List ℕ). slice_get ns 0) line_is) it given none
+  pub comes : (it : HeadCame shelf n old y) → IsGivenHead (first_on n (parts x.state)) shelf n old y it → y.state.refused ≡ [] → y.state.is_astray ≡ false → HeadLeads number (is_wrong_head e head) x y s n k e head rule
+  comes it given none straight = leads (first_on n (parts x.state)) (ap (λ (ns : List ℕ). slice_get ns 0) line_is) it given none straight
 
-pub heads_come : RulesAreTheLaws → OwnAnswersAreTheLaws → PassedAnswersAreTheLaws → HeadsComeAsTheLaws
-heads_come rules own passed number shelf x y s n k e peer head rule left shows due read may it given none = comes rules own passed number shelf x y s n k e peer head rule left shows due read may it given none
+pub heads_come : RulesAreTheLaws → OwnAnswersAreTheLaws → PassedAnswersAreTheLaws → PartAnswersAreTheLaws → HeadsComeAsTheLaws
+heads_come rules own passed part number shelf x y s n k e peer head rule left shows due read may it given none straight = comes rules own passed part number shelf x y s n k e peer head rule left shows due read may it given none straight

@@ -2,17 +2,17 @@
 use Rattle.std.proofs.Common.{◌≡◌, ◌≤◌, ◌⊎◌, inl, inr, refl, sym, subst, ap, ◌∙◌, ℕ, Bool, true, false, cond, find, List, [], ◌∷◌, Some, Option}
 use Rattle.std.specs.Prelude.{count_by}
 use Rattle.pp_cache_law.proofs.Numbers.{some_is}
-use Rattle.pp_closings_law.specs.Sides.{AreOrderly, MayClose}
+use Rattle.pp_turns_law.specs.Sides.{AreOrderly, MayClose}
 use Rattle.pp_flow_law.proofs.Entries.{none_some}
 use Rattle.pp_law.specs.Closing.{left_alone}
 use Rattle.pp_law.specs.Connections.{attempts_of, charge, exchange, give_up_row, is_client, is_conn, is_exchange, is_unfilled, lose_attempt, lost_one, on_client_of, on_exchange, without_row}
 use Rattle.pp_law.specs.Lists.{change, is_some_with}
 use Rattle.pp_law.specs.State.{State, Client, Conn, Exchange, Passed}
 use Rattle.pp_law.specs.Table.{clear, swept}
-use Rattle.pp_steps_law.proofs.Charged.{lost_given}
-use Rattle.pp_steps_law.proofs.Paid.{Before, Stays, charge_stays}
-use Rattle.pp_steps_law.specs.Charges.{GoesOn}
-use Rattle.pp_steps_law.specs.Losses.{IsComing}
+use Rattle.pp_states_law.proofs.Charged.{lost_given}
+use Rattle.pp_states_law.proofs.Paid.{Before, Stays, charge_stays}
+use Rattle.pp_states_law.specs.Charges.{GoesOn}
+use Rattle.pp_states_law.specs.Losses.{IsComing}
 use Rattle.pp_target.specs.Key.{text_of}
 
 -- ---- one that is somebody's was there before

@@ -20,7 +20,7 @@ use Rattle.pp_proxy.specs.Handling.{ReceivesOn}
 use Rattle.pp_proxy.specs.Moving.{Turning}
 use Rattle.pp_seats.specs.declared.seat.Seat.{Seat}
 use Rattle.pp_state.specs.Ends.{Parts, parts}
-use Rattle.pp_steps_law.specs.Steps.{ShowsSteps}
+use Rattle.pp_states_law.specs.Steps.{ShowsSteps}
 use Rattle.pp_turns_law.specs.Turns.{IsFollowing}
 use Rattle.pp_reads_law.proofs.Knows.{knows_rest}
 use Rattle.pp_reads_law.specs.Stays.{KnowsAsMuch}

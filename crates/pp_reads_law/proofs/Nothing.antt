@@ -1,7 +1,7 @@
 -- Where no byte is left and a head is awaited, a step of the pipe changes nothing.
 use Rattle.std.proofs.Common.{◌≡◌, sym, subst, ap, ap₂, ◌∙◌, Bool, cond, find, List, [], Option, Some, None}
 use Rattle.pp_cache_law.proofs.Numbers.{some_is}
-use Rattle.pp_closings_law.proofs.Peers.{HasPeer, linked}
+use Rattle.pp_turns_law.proofs.Peers.{HasPeer, linked}
 use Rattle.pp_origins.specs.Gots.{Both, IsStep, IsStepOn, TakesStep, going_on, left_behind, remaining}
 use Rattle.pp_peers.specs.Peers.{is_number, with_pipe}
 use Rattle.pp_peers.specs.declared.peers.Peer.{Peer}

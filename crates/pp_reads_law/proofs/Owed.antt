@@ -2,7 +2,7 @@
 use Rattle.std.proofs.Common.{◌≡◌, ◌≤◌, ◌+◌, ◌-◌, ◌^◌, refl, sym, subst, ap, ◌∙◌, ℕ, Bool, true, false, map, List, [], ◌∷◌, Option, Some, None}
 use Rattle.std.specs.Prelude.{option_map}
 use Rattle.pp_cache_law.proofs.Finds.{find_mapped, find_passes}
-use Rattle.pp_decides_law.proofs.Twice.{regains_once}
+use Rattle.pp_turns_law.proofs.Twice.{regains_once}
 use Rattle.pp_endings_law.specs.Gone.{IsAnswering}
 use Rattle.pp_events_law.proofs.Anew.{anew_if}
 use Rattle.pp_law.specs.After.{event, owing}

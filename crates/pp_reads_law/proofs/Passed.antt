@@ -8,8 +8,8 @@ use Rattle.pp_client.specs.declared.reply.Begin.{Begin}
 use Rattle.pp_client.specs.declared.reply.Begin.TheVariants.{Page, Instance, Passed as IsPassed}
 use Rattle.pp_client.specs.declared.reply.Stage.{Stage as SaidStage}
 use Rattle.pp_client.specs.declared.reply.Stage.TheVariants.{Due, Begun}
-use Rattle.pp_decides_law.proofs.Sitting.{is_at, shown_at}
-use Rattle.pp_decides_law.specs.Decides.{IsAtPlace}
+use Rattle.pp_turns_law.proofs.Sitting.{is_at, shown_at}
+use Rattle.pp_turns_law.specs.Decides.{IsAtPlace}
 use Rattle.pp_endings_law.specs.Replies.{AllMayEnd, MayGoOn}
 use Rattle.pp_law.specs.Connections.{is_client}
 use Rattle.pp_law.specs.Lists.{Bytes}

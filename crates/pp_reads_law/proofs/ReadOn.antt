@@ -4,8 +4,8 @@ use Rattle.std.proofs.lemmas.List.{length-drop}
 use Rattle.std.specs.Prelude.{option_map, slice_range}
 use Rattle.pp_cache_law.proofs.Finds.{find_passes}
 use Rattle.pp_cache_law.proofs.Numbers.{some_is}
-use Rattle.pp_closings_law.proofs.Peers.{HasPeer, linked}
-use Rattle.pp_closings_law.specs.Sides.{MayClose, ShowsSides}
+use Rattle.pp_turns_law.proofs.Peers.{HasPeer, linked}
+use Rattle.pp_turns_law.specs.Sides.{MayClose, ShowsSides}
 use Rattle.pp_desk.specs.Closings.{Sides}
 use Rattle.pp_endings_law.proofs.Pipes.{pipe_found, with_line}
 use Rattle.pp_endings_law.specs.Gone.{IsAnswering}
@@ -38,8 +38,8 @@ use Rattle.pp_states_law.proofs.Alone.{piped as pipe_is}
 use Rattle.pp_states_law.proofs.ReadOn.{bodies_go_on}
 use Rattle.pp_states_law.specs.Readings.{with_raw}
 use Rattle.pp_states_law.specs.States.{ShowsState}
-use Rattle.pp_steps_law.proofs.Told.{conn_next, told_next}
-use Rattle.pp_steps_law.specs.Steps.{ShowsSteps, whole}
+use Rattle.pp_states_law.proofs.Told.{conn_next, told_next}
+use Rattle.pp_states_law.specs.Steps.{ShowsSteps, whole}
 use Rattle.pp_store.specs.Kept.{KeptMap}
 use Rattle.pp_reads_law.proofs.Amid.{moved_finish, moved_headed, moved_same, moved_whole, pipe_twice, set_may}
 use Rattle.pp_reads_law.proofs.BadOnes.{bad_bodies}
@@ -66,7 +66,7 @@ fate_amid Closed a bytes left came amid = absurd amid
 fate_amid Broken a bytes left came amid = absurd amid
 
 module _ (number : ℕ → ℕ) (name : Bytes) (x : Both) (s : State) (n : ℕ) (k : Conn) (a : Answer) (peer : Peer) (e : Exchange) (bytes : Bytes) (shows : ShowsSides number name (sides_of x) s) (it : IsWithinBody x s n k a peer e) where
-  abbrev at : ℕ
+  abbrev pub at : ℕ
   at = length (payload_of a)
 
   abbrev first : IsFront s k e
@@ -82,10 +82,10 @@ module _ (number : ℕ → ℕ) (name : Bytes) (x : Both) (s : State) (n : ℕ) 
 
   -- ---- of the law, by what the body is with these bytes
 
-  abbrev then_by : Bytes → State
+  abbrev pub then_by : Bytes → State
   then_by came = deliver e a at came s
 
-  abbrev piece_by : Body → Piece
+  abbrev pub piece_by : Body → Piece
   piece_by body =
       elim body.outcome as (λ p. Piece) [
         | Going ↦ record { state = on_conn k.number (λ i. record i { answer = Some (record a { raw = a.raw ++ bytes }) }) (then_by (drop at body.payload)); rest = [] }
@@ -154,7 +154,6 @@ module _ (number : ℕ → ℕ) (name : Bytes) (x : Both) (s : State) (n : ℕ) 
       };
       answer = it.on.answer;
       linked = it.on.linked;
-      stays = it.on.stays;
       pipelines = it.on.pipelines;
     }
 
@@ -191,25 +190,25 @@ module _ (number : ℕ → ℕ) (name : Bytes) (x : Both) (s : State) (n : ℕ) 
   -- ---- one step
 
   module _ (shelf : KeptMap) (z next : Both) (here : Remains) (behind : Option Remains) (may : MayGo x.state s e (data_in a bytes)) (amid : IsAmidBody x z n peer a bytes here) where
-    abbrev line : Line
+    abbrev pub line : Line
     line = record peer.pipe { reading = amid.reading }
 
-    abbrev here_peer : Peer
+    abbrev pub here_peer : Peer
     here_peer = with_line line peer
 
     peer_here : find (is_number n) z.peers ≡ Some here_peer
     peer_here = ap (λ (ps : List Peer). find (is_number n) ps) amid.peers ∙ pipe_found n line x.peers ∙ ap (λ (o : Option Peer). option_map (with_line line) o) it.on.linked
 
-    goes : going_on (find (is_number n) z.peers) ≡ Some here_peer
+    pub goes : going_on (find (is_number n) z.peers) ≡ Some here_peer
     goes = ap (λ (o : Option Peer). going_on o) peer_here ∙ ap (λ (b : Bool). cond b None (Some here_peer)) own_open
 
-    data_is : (body : Body) → body_of a.rule (a.raw ++ bytes) ≡ body → body.payload ≡ payload_of a ++ here.came → data_in a bytes ≡ here.came
+    pub data_is : (body : Body) → body_of a.rule (a.raw ++ bytes) ≡ body → body.payload ≡ payload_of a ++ here.came → data_in a bytes ≡ here.came
     data_is body is payload = ap (λ (b : Body). drop at b.payload) is ∙ ap (λ (bs : Bytes). drop at bs) payload ∙ drop_at (payload_of a) here.came (length (payload_of a)) refl
 
     abbrev Result : Type 0
     Result = GoesOnAmid x next n peer a bytes here behind ⊎ PieceIsOver number name next s k a bytes behind
 
-    piece_with : (body : Body) → body_of a.rule (a.raw ++ bytes) ≡ body → body_piece k a bytes s ≡ piece_by body
+    pub piece_with : (body : Body) → body_of a.rule (a.raw ++ bytes) ≡ body → body_piece k a bytes s ≡ piece_by body
     piece_with body is = piece_is ∙ ap piece_by is
 
     over : (piece : Piece) → body_piece k a bytes s ≡ piece → ShowsSides number name (sides_of next) piece.state → LeavesBytes behind piece.rest → Result
@@ -218,7 +217,7 @@ module _ (number : ℕ → ℕ) (name : Bytes) (x : Both) (s : State) (n : ℕ) 
     fed_is : (step : Step) (left : Reading) (fed : List Peer) → fed ≡ with_pipe n (stepped step left line) z.peers → fed ≡ with_pipe n (stepped step left line) x.peers
     fed_is step left fed is = is ∙ ap (λ (ps : List Peer). with_pipe n (stepped step left line) ps) amid.peers ∙ pipe_twice n line (stepped step left line) x.peers
 
-    came_at : (came : Bytes) (q : Turn) → DataCame n came z.state q → DataCame n came x.state q
+    pub came_at : (came : Bytes) (q : Turn) → DataCame n came z.state q → DataCame n came x.state q
     came_at came q it = subst (λ (p : Turn). DataCame n came p q) amid.state it
 
     by_step : (used : ℕ) (step : Step) (left : Reading) (fed : List Peer) → used ≤ length here.bytes → IsBodyRead a bytes here.bytes here.came used step left → fed ≡ with_pipe n (stepped step left line) z.peers

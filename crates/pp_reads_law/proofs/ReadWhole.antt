@@ -2,8 +2,8 @@
 use Rattle.std.proofs.Common.{◌≡◌, ◌⊎◌, inl, inr, ◌≤◌, ◌<◌, refl, sym, subst, ap, ◌∙◌, ℕ, zero, suc, pred, ◌+◌, ◌*◌, Bool, true, false, not, ◌==◌, ◌||◌, cond, drop, find, length, List, [], ◌∷◌, Option, Some, None, arith}
 use Rattle.std.proofs.lemmas.List.{length-drop}
 use Rattle.pp_cache_law.proofs.Numbers.{some_is}
-use Rattle.pp_closings_law.proofs.Peers.{HasPeer, linked}
-use Rattle.pp_closings_law.specs.Sides.{ShowsSides}
+use Rattle.pp_turns_law.proofs.Peers.{HasPeer, linked}
+use Rattle.pp_turns_law.specs.Sides.{ShowsSides}
 use Rattle.pp_flow_law.proofs.Entries.{none_some}
 use Rattle.pp_framing.specs.Body.{Outcome, Done, Going, Bad as NoBody}
 use Rattle.pp_framing.specs.Rules.{body_of}
@@ -185,7 +185,7 @@ module _ (comes : HeadsComeAsTheLaws) (name : Bytes) (shelf : KeptMap) (n : ℕ)
     goes_on number1 shown holds_then =
         follows number1 m it.got.less next s t (b ∷ bytes) rest behind between it.got.leaves run it.got.law it.got.enough holds_then (at_name number1 next t shown) (omega (arith, fuel, it.got.fewer))
 
-    taken_at : (taken : HeadIsTaken next then n it.there.before e it.got.head it.got.rule) → is_wrong_head e it.got.head ≡ false → ((body_of it.got.rule []).outcome ≡ Going) ⊎ ((body_of it.got.rule []).outcome ≡ Done []) → Ends s (b ∷ bytes)
+    taken_at : (taken : HeadIsTaken number it.there.begin next then n it.there.before e it.got.head it.got.rule) → is_wrong_head e it.got.head ≡ false → ((body_of it.got.rule []).outcome ≡ Going) ⊎ ((body_of it.got.rule []).outcome ≡ Done []) → Ends s (b ∷ bytes)
     unfolding GotFrom end_if_empty
     taken_at taken right (inl going) = goes_on taken.number shown (given.holds taken.number shown (inr going))
       where
@@ -199,23 +199,23 @@ module _ (comes : HeadsComeAsTheLaws) (name : Bytes) (shelf : KeptMap) (n : ℕ)
               | Going ↦ begun_by it.there.before e it.got.head it.got.rule then
               | NoBody ↦ begun_by it.there.before e it.got.head it.got.rule then
             ]) going))
-            (shows_there shelf it.there.begin next then n it.there.before e it.there.peer it.got.head it.got.rule it.there.shows.may it.there.due taken (given.end right))
+            (shows_there number shelf it.there.begin next then n it.there.before e it.there.peer it.got.head it.got.rule it.there.shows.may it.there.due taken (given.end right))
     taken_at taken right (inr done) = by m refl (subst (λ (o : Option Remains). GotFrom m shelf n o next y) it.got.leaves run)
       where
         by : (i : ℕ) → m ≡ i → GotFrom i shelf n (Some (remaining rest [])) next y → Ends s (b ∷ bytes)
         by zero is last = absurd (omega (arith, fuel, is))
         by (suc j) is last =
             let one : EndsAtOnce taken.number last.0 then it.there.before it.got.head rest last.1 =
-            empties_end shelf it.there.begin next last.0 then n it.there.before e it.there.peer it.got.head it.got.rule [] rest last.1 it.there.shows.may it.there.due taken (given.end right) done last.2 in
+            empties_end number shelf it.there.begin next last.0 then n it.there.before e it.there.peer it.got.head it.got.rule [] rest last.1 it.there.shows.may it.there.due taken (given.end right) done last.2 in
             follows taken.number j it.got.less last.0 s t (b ∷ bytes) rest last.1 (below j is) one.leaves last.3 it.got.law it.got.enough (given.ends taken.number last.0 last.1 j one.shows right done last.2 last.3) (at_name taken.number last.0 t one.shows)
             (omega (arith, fuel, is, it.got.fewer))
 
     head_got : Ends s (b ∷ bytes)
     head_got =
         by (is_wrong_head e it.got.head) refl
-        (comes number shelf it.there.begin next then n it.there.before e it.there.peer it.got.head it.got.rule it.got.left it.there.shows it.there.due it.got.read given.may it.got.came given.given given.refused)
+        (comes number shelf it.there.begin next then n it.there.before e it.there.peer it.got.head it.got.rule it.got.left it.there.shows it.there.due it.got.read given.may it.got.came given.given given.refused given.straight)
       where
-        by : (c : Bool) → is_wrong_head e it.got.head ≡ c → HeadLeads c next then n it.there.before e it.got.head it.got.rule → Ends s (b ∷ bytes)
+        by : (c : Bool) → is_wrong_head e it.got.head ≡ c → HeadLeads number c it.there.begin next then n it.there.before e it.got.head it.got.rule → Ends s (b ∷ bytes)
         by true is refused = goes_on refused.number refused.shows (given.holds refused.number refused.shows (inl is))
         by false is taken = taken_at taken is (empty_or_going it.got.rule)
 
@@ -269,11 +269,11 @@ module _ (comes : HeadsComeAsTheLaws) (name : Bytes) (shelf : KeptMap) (n : ℕ)
         is_due : IsDue s n k first.first
         is_due = record { on = opens; front = first.front; whole = first.whole }
 
-        awaits : IsAwaited x k first.first
+        awaits : IsAwaited k first.first
         awaits = sup.awaits x s (b ∷ bytes) k first.first holds is_due has
 
         due : HeadIsDue x s n k first.first own.peer
-        due = record { due = is_due; none = awaits.none; linked = own.there; asks = awaits.asks }
+        due = record { due = is_due; none = awaits.none; linked = own.there }
 
         by : StopsThere number run.0 s n (b ∷ bytes) run.1 ⊎ HeadIsGotThere number shelf x run.0 s n k first.first (b ∷ bytes) run.1 → Ends s (b ∷ bytes)
         by (inl stops) =

@@ -5,7 +5,7 @@ use Rattle.std.specs.Prelude.{option_and_then, option_map, slice_get}
 use Rattle.pp_cache_law.proofs.Finds.{find_passes}
 use Rattle.pp_cache_law.specs.Pairs.{AreBoth}
 use Rattle.pp_client.specs.Replies.{Reply as Said}
-use Rattle.pp_closings_law.specs.Sides.{ShowsSides}
+use Rattle.pp_turns_law.specs.Sides.{ShowsSides}
 use Rattle.pp_desk.specs.Closings.{Sides}
 use Rattle.pp_flow.specs.Changes.{entry_of, line_of}
 use Rattle.pp_flow.specs.declared.entry.Entry.{Entry}
@@ -29,8 +29,8 @@ use Rattle.pp_seats_law.specs.Seats.{ShowsSeat}
 use Rattle.pp_seats_law.specs.Words.{ShowsMaybePassed}
 use Rattle.pp_state.specs.Bodies.{room_for, room_of_seat, seat_in}
 use Rattle.pp_state.specs.Ends.{Parts, numbers_of, place_of}
-use Rattle.pp_steps_law.proofs.Places.{at_place, no_place}
-use Rattle.pp_steps_law.specs.Charges.{GoesOn}
+use Rattle.pp_states_law.proofs.Places.{at_place, no_place}
+use Rattle.pp_states_law.specs.Charges.{GoesOn}
 
 -- ---- no more than 32,768 bytes
 

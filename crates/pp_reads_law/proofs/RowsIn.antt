@@ -1,8 +1,9 @@
 -- The row that is kept of a key comes into memory, and another leaves for it, as the law has it.
-use Rattle.std.proofs.Common.{◌≡◌, ◌≤◌, inl, inr, refl, sym, subst, ap, ap₂, ◌∙◌, ℕ, ◌+◌, Bool, true, false, ◌||◌, ◌&&◌, cond, find, List, [], ◌∷◌, ◌++◌, length, Option, Some, None, option_map, arith}
+use Rattle.std.proofs.Common.{◌≡◌, ◌≤◌, inl, inr, refl, sym, subst, ap, ap₂, ◌∙◌, le_refl, ℕ, ◌+◌, Bool, true, false, ◌||◌, ◌&&◌, cond, find, List, [], ◌∷◌, ◌++◌, length, Option, Some, None, option_map, arith}
 use Rattle.std.proofs.lemmas.Bool.Decides.{nat_tests}
 use Rattle.std.specs.List.{list_any}
 use Rattle.std.specs.Prelude.{bytes_eq, count_by, is_some, nat_le, nat_lt}
+use Rattle.pp_answers_law.proofs.Carried.{numbers_stay, one_more}
 use Rattle.pp_answers_law.specs.Making.{AreGivenSeats}
 use Rattle.pp_cache.specs.Bounds.{IsBounded}
 use Rattle.pp_cache.specs.Memory.{Memory, with_row}
@@ -42,7 +43,7 @@ use Rattle.pp_state.specs.Pins.{busy_rows, forgotten_row, idle_row, without_inst
 use Rattle.pp_state.specs.declared.state.State.{State as Turn}
 use Rattle.pp_states_law.proofs.Asked.{all_as, frames, itself}
 use Rattle.pp_states_law.specs.Asks.{IsAskedAs}
-use Rattle.pp_steps_law.specs.Told.{AreTold}
+use Rattle.pp_states_law.specs.Told.{AreTold}
 use Rattle.pp_store.specs.Kept.{Kept, KeptMap, kept_of as kept_in_store}
 use Rattle.pp_target.specs.Name.{name_of}
 use Rattle.pp_turns_law.proofs.Numbered.{AreSame, seats_as}
@@ -92,9 +93,11 @@ module _ (number : ℕ → ℕ) (l : Leaving) (peers : List Peer) (shelf : KeptM
   table : ShowsTable number m s
   table = shows.turn.steps.shows.table.table
 
-  stands : (k : Memory) (t : State) (keys : List Bytes) → IsEntered s t keys → ShowsCache after k t → k.lives ≡ m.lives + 1 → k.outdated ≡ m.outdated → IsButNew m k → IsBounded k → IsAmidRead l peers shelf (beside p k keys) t
+  stands : (k : Memory) (t : State) (keys : List Bytes) → IsEntered s t keys → ShowsCache after k t → k.lives ≡ m.lives + 1 → k.outdated ≡ m.outdated → IsButNew m k → IsBounded k → IsAmidRead number p.cache.lives s.next_instance l peers shelf (beside p k keys) t
   stands k t keys rest cache lives outdated but bounded = record {
     number = after;
+    keeps = one_more m.lives k.lives s.next_instance number lives;
+    grows = omega (arith, rest.next);
     shows = record {
       turn = record {
         steps = record {
@@ -205,9 +208,9 @@ module _ (number : ℕ → ℕ) (l : Leaving) (peers : List Peer) (shelf : KeptM
     same_keys : (keys : List Bytes) → keys ≡ p.forgotten → beside p m1 keys ≡ mid
     same_keys keys are = ap (λ (ks : List Bytes). beside p m1 ks) are
 
-    in_room : nat_lt (rows s) 1024 ≡ true → (q : Turn) → q ≡ roomed → IsBounded q.cache → IsAmidRead l peers shelf q t
+    in_room : nat_lt (rows s) 1024 ≡ true → (q : Turn) → q ≡ roomed → IsBounded q.cache → IsAmidRead number p.cache.lives s.next_instance l peers shelf q t
     in_room few q is_q bounded =
-        subst (λ (r : Turn). IsAmidRead l peers shelf r t) (sym all)
+        subst (λ (r : Turn). IsAmidRead number p.cache.lives s.next_instance l peers shelf r t) (sym all)
         (stands m1 t s.forgotten (enters_in s key e alone is few) (subst (λ (j : Memory). ShowsCache after j t) (way_few none) cache_then) lives_then outdated_then there_then (subst (λ (r : Turn). IsBounded r.cache) all bounded))
       where
         none : nat_lt 1024 (count_by is_row m1.instances) ≡ false
@@ -253,26 +256,26 @@ module _ (number : ℕ → ℕ) (l : Leaving) (peers : List Peer) (shelf : KeptM
           ∙ ap (λ (b : Bool). cond (b || nat_le 16 (length s.forgotten) || nat_lt 8192 (length x.key)) s.forgotten (s.forgotten ++ x.key ∷ [])) noted.new
           ∙ ap₂ (λ (b c : Bool). cond (b || c) s.forgotten (s.forgotten ++ x.key ∷ [])) noted.few noted.short
 
-      for_it : (q : Turn) → q ≡ roomed → IsBounded q.cache → IsAmidRead l peers shelf q t
+      for_it : (q : Turn) → q ≡ roomed → IsBounded q.cache → IsAmidRead number p.cache.lives s.next_instance l peers shelf q t
       for_it q is_q bounded =
-          subst (λ (r : Turn). IsAmidRead l peers shelf r t) (sym all)
+          subst (λ (r : Turn). IsAmidRead number p.cache.lives s.next_instance l peers shelf r t) (sym all)
           (stands (without_instance i m1) t (s.forgotten ++ x.key ∷ []) (enters_for s key e x alone is full next shows.may.few) (subst (λ (j : Memory). ShowsCache after j t) way cache_then) lives_then outdated_then (left_there m m1 i there_then)
           (subst (λ (r : Turn). IsBounded r.cache) all bounded))
         where
           all : q ≡ beside p (without_instance i m1) (s.forgotten ++ x.key ∷ [])
           all = is_q ∙ leaves ∙ ap (λ (keys : List Bytes). beside p (without_instance i m1) keys) noted_so
 
-    by_row : (full : nat_lt (rows s) 1024 ≡ false) → HasWay s → (q : Turn) → q ≡ roomed → IsBounded q.cache → IsAmidRead l peers shelf q t
+    by_row : (full : nat_lt (rows s) 1024 ≡ false) → HasWay s → (q : Turn) → q ≡ roomed → IsBounded q.cache → IsAmidRead number p.cache.lives s.next_instance l peers shelf q t
     by_row full way q is_q bounded = by (find (is_idle (busy_rows p.flow)) m.instances) refl (subst (λ (o : Option Known). AreBoth (ShowsInstance number m s) (find (is_idle (busy_rows p.flow)) m.instances) o) way.idle (idle_rows_of number m s table (busy_rows p.flow) busy))
       where
-        by : (o : Option Instance) → find (is_idle (busy_rows p.flow)) m.instances ≡ o → AreBoth (ShowsInstance number m s) o (Some way.row) → IsAmidRead l peers shelf q t
+        by : (o : Option Instance) → find (is_idle (busy_rows p.flow)) m.instances ≡ o → AreBoth (ShowsInstance number m s) o (Some way.row) → IsAmidRead number p.cache.lives s.next_instance l peers shelf q t
         by None here both = absurd both
         by (Some i) here both = for_it i way.row full here way.idle both way.may q is_q bounded
 
-    comes_in : MayMakeRoom s → (q : Turn) → q ≡ roomed → IsBounded q.cache → IsAmidRead l peers shelf q t
+    comes_in : MayMakeRoom s → (q : Turn) → q ≡ roomed → IsBounded q.cache → IsAmidRead number p.cache.lives s.next_instance l peers shelf q t
     comes_in room q is_q bounded = by (nat_lt (rows s) 1024) refl
       where
-        by : (b : Bool) → nat_lt (rows s) 1024 ≡ b → IsAmidRead l peers shelf q t
+        by : (b : Bool) → nat_lt (rows s) 1024 ≡ b → IsAmidRead number p.cache.lives s.next_instance l peers shelf q t
         by true few = in_room few q is_q bounded
         by false full = by_row full (room full) q is_q bounded
 
@@ -301,9 +304,9 @@ module _ (number : ℕ → ℕ) (l : Leaving) (peers : List Peer) (shelf : KeptM
     forgotten = shows.forgotten;
   }
 
-  nothing : (b : Bool) (key : Bytes) (q r : Turn) → r ≡ record p { is_astray = b } → q ≡ with_room_if_over r → kept_alone key shelf m ≡ None → IsAmidRead l peers shelf q (enter key true s)
+  nothing : (b : Bool) (key : Bytes) (q r : Turn) → r ≡ record p { is_astray = b } → q ≡ with_room_if_over r → kept_alone key shelf m ≡ None → IsAmidRead number p.cache.lives s.next_instance l peers shelf q (enter key true s)
   nothing b key q r same is_q none =
-      subst (λ (u : State). IsAmidRead l peers shelf q u) (sym (law (row s key) refl)) (subst (λ (y : Turn). IsAmidRead l peers shelf y s) (sym all) (record { number = number; shows = astray_shows b }))
+      subst (λ (u : State). IsAmidRead number p.cache.lives s.next_instance l peers shelf q u) (sym (law (row s key) refl)) (subst (λ (y : Turn). IsAmidRead number p.cache.lives s.next_instance l peers shelf y s) (sym all) (record { number = number; keeps = numbers_stay number m.lives m.lives s.next_instance refl; grows = le_refl s.next_instance; shows = astray_shows b }))
     where
       all : q ≡ record p { is_astray = b }
       all =
@@ -336,17 +339,17 @@ module _ (number : ℕ → ℕ) (l : Leaving) (peers : List Peer) (shelf : KeptM
       by (Some i) (Some x) at both =
           absurd (none_some (sym (ap (λ (o : Option Instance). elim (is_some o || list_any (bytes_eq (name_of key)) m.outdated) as (λ c. Option Kept) [ true ↦ None | false ↦ kept_in_store key shelf ]) at) ∙ is))
 
-  by_comes : (key : Bytes) (q r : Turn) → MayMakeRoom s → Comes shelf key p r → q ≡ with_room_if_over r → IsBounded q.cache → IsAmidRead l peers shelf q (enter key true s)
+  by_comes : (key : Bytes) (q r : Turn) → MayMakeRoom s → Comes shelf key p r → q ≡ with_room_if_over r → IsBounded q.cache → IsAmidRead number p.cache.lives s.next_instance l peers shelf q (enter key true s)
   by_comes key q r room comes is_q bounded = by (kept_alone key shelf m) refl comes.cache
     where
       mid_is : r ≡ record p { cache = r.cache }
       mid_is = ap (λ (y : Turn). let z : Turn = record y { cache = r.cache } in z) comes.rest
 
-      some : (kept : Kept) (o : Option Entry) → row s key ≡ None → row_on_disk s key ≡ o → AreBoth IsKeptAs (Some kept) o → Enters key kept m r.cache → IsAmidRead l peers shelf q (enter key true s)
+      some : (kept : Kept) (o : Option Entry) → row s key ≡ None → row_on_disk s key ≡ o → AreBoth IsKeptAs (Some kept) o → Enters key kept m r.cache → IsAmidRead number p.cache.lives s.next_instance l peers shelf q (enter key true s)
       some kept None alone is both enters = absurd both
       some kept (Some e) alone is both enters = comes_in key r.cache kept e enters alone is both room q (is_q ∙ ap (λ (y : Turn). with_room_if_over y) mid_is) bounded
 
-      by : (o : Option Kept) → kept_alone key shelf m ≡ o → IsBrought key o m r.cache → IsAmidRead l peers shelf q (enter key true s)
+      by : (o : Option Kept) → kept_alone key shelf m ≡ o → IsBrought key o m r.cache → IsAmidRead number p.cache.lives s.next_instance l peers shelf q (enter key true s)
       by None is same = nothing p.is_astray key q r (mid_is ∙ ap (λ (k : Memory). let z : Turn = record p { cache = k } in z) same) is_q is
       by (Some kept) is enters =
           let alone : row s key ≡ None = alone_if key kept is in
@@ -357,20 +360,20 @@ module _ (number : ℕ → ℕ) (l : Leaving) (peers : List Peer) (shelf : KeptM
 pub come_in : RowsComeInWithRoom
 come_in number l peers shelf key p q s shows room it given bounded = by it.comes given
   where
-    by : (comes : MayCome shelf key p it.entered) → IsGivenRow shelf key p it.entered comes → IsAmidRead l peers shelf q (enter key true s)
+    by : (comes : MayCome shelf key p it.entered) → IsGivenRow shelf key p it.entered comes → IsAmidRead number p.cache.lives s.next_instance l peers shelf q (enter key true s)
     by (inl comes) given = by_comes number l peers shelf p s shows key q it.entered room comes it.room bounded
     by (inr stays) none = nothing number l peers shelf p s shows true key q it.entered stays it.room none
 
 pub brought : RowsAreBroughtAsTheLaws
 unfolding bring_row
 brought number l peers shelf p q s n x e head shows room here shown readable it given bounded =
-    subst (λ (b : Bool). IsAmidRead l peers shelf q (elim b as (λ c. State) [ true ↦ enter (its_key e) true s | false ↦ s ])) (sym readable)
+    subst (λ (b : Bool). IsAmidRead number p.cache.lives s.next_instance l peers shelf q (elim b as (λ c. State) [ true ↦ enter (its_key e) true s | false ↦ s ])) (sym readable)
     (by (key_of n p.flow) (ap (λ (o : Option Asking). option_map (λ (y : Asking). y.key.items) o) here) it given)
   where
-    by : (o : Option Bytes) → o ≡ Some x.key.items → (it : HasRowFor shelf o p q) → IsGivenFor shelf o p q it → IsAmidRead l peers shelf q (enter (its_key e) true s)
+    by : (o : Option Bytes) → o ≡ Some x.key.items → (it : HasRowFor shelf o p q) → IsGivenFor shelf o p q it → IsAmidRead number p.cache.lives s.next_instance l peers shelf q (enter (its_key e) true s)
     by None is it given = absurd (none_some is)
     by (Some text) is it given =
-        subst (λ (key : Bytes). IsAmidRead l peers shelf q (enter key true s)) (some_same text x.key.items is ∙ shown.text_key)
+        subst (λ (key : Bytes). IsAmidRead number p.cache.lives s.next_instance l peers shelf q (enter key true s)) (some_same text x.key.items is ∙ shown.text_key)
         (come_in number l peers shelf text p q s shows room it given bounded)
       where
         some_same : (a b : Bytes) → Some a ≡ Some b → a ≡ b

@@ -2,8 +2,8 @@
 use Rattle.std.proofs.Common.{◌≡◌, ◌≤◌, refl, sym, subst, ap, ap₂, ◌∙◌, ℕ, Bool, true, false, cond, find, List, [], ◌∷◌, ◌++◌, Option, Some, None, arith}
 use Rattle.pp_cache_law.proofs.Finds.{find_passes}
 use Rattle.pp_cache_law.proofs.Numbers.{some_is}
-use Rattle.pp_closings_law.proofs.Peers.{HasPeer, linked}
-use Rattle.pp_closings_law.specs.Sides.{ShowsSides}
+use Rattle.pp_turns_law.proofs.Peers.{HasPeer, linked}
+use Rattle.pp_turns_law.specs.Sides.{ShowsSides}
 use Rattle.pp_flow_law.proofs.Entries.{same_number}
 use Rattle.pp_flow_law.specs.Tables.{none_leaves}
 use Rattle.pp_framing.specs.Body.{Body as Delimited, Done, Going, Bad as NoBody}
@@ -27,7 +27,7 @@ use Rattle.pp_state.specs.declared.state.State.{State as Turn}
 use Rattle.pp_states_law.proofs.Alone.{piped as pipe_is}
 use Rattle.pp_states_law.proofs.ReadOn.{readings}
 use Rattle.pp_states_law.specs.States.{ShowsState}
-use Rattle.pp_steps_law.specs.Steps.{whole}
+use Rattle.pp_states_law.specs.Steps.{whole}
 use Rattle.pp_store.specs.Kept.{KeptMap}
 use Rattle.pp_reads_law.specs.Bads.{IsOpen}
 use Rattle.pp_reads_law.specs.Pauses.{PausesChangeNothing, StandsStill}
@@ -91,7 +91,7 @@ module _ (number : ℕ → ℕ) (name : Bytes) (shelf : KeptMap) (x next : Both)
       (subst (λ (ps : List Peer). ShowsState number name [] none_leaves (whole (parts x.state) ps) (on_conn n same_conn s)) (sym (pipe_is n (record pipe { reading = left }) x.peers peer there))
       (subst (λ (m : ℕ). ShowsState number name [] none_leaves (whole (parts x.state) (with_peer m (record peer { pipe = record pipe { reading = left } }) x.peers)) (on_conn m same_conn s)) kn
       (readings number name [] none_leaves (whole (parts x.state) x.peers) s shows.steps.shows peer k left peer.stays (λ j. j.unread) (λ j. j.answer) shows.may.apart
-      (record { linked = ap (λ (m : ℕ). find (is_number m) x.peers) kn ∙ there; there = ap (λ (m : ℕ). conn s m) kn ∙ is.there; goes_on = is.goes_on }) reads)))
+      (record { linked = ap (λ (m : ℕ). find (is_number m) x.peers) kn ∙ there; there = ap (λ (m : ℕ). conn s m) kn ∙ is.there; goes_on = is.goes_on }) reads (own.stays is.goes_on))))
 
   body_is : (body_of a.rule (a.raw ++ [])).outcome ≡ Going
   body_is = ap (λ (bs : Bytes). (body_of a.rule bs).outcome) (all_of a.raw) ∙ going

@@ -38,7 +38,7 @@ module _ (e : Exchange) (errand : Errand) (head : Response) (rule : BodyRule) (s
       by false = other s.name.items e errand head rule (parts s)
   takes_own (Some v) q it = roomed v q (settles e errand head v s.now (row_for e.number (parts s)) (parts (with_room_for (row_for e.number (parts s)) s)) q it)
 
-  takes_part : (o : Option Version) (q : Parts) → TakesPart e errand head rule o s q → Stay (parts s) q
+  pub takes_part : (o : Option Version) (q : Parts) → TakesPart e errand head rule o s q → Stay (parts s) q
   takes_part None q it = becomes (parts s) (part_without_version (head.status == 304) e errand head rule s) q it (by (head.status == 304))
     where
       shared : (b : Bool) → Stay (parts s) (shared_part b s.name.items e head rule (parts s))
@@ -56,7 +56,7 @@ module _ (e : Exchange) (errand : Errand) (head : Response) (rule : BodyRule) (s
       by false = private (is_private_part head)
   takes_part (Some v) q it = roomed v q (settles e errand head v s.now (row_for e.number (parts s)) (parts (with_room_for (row_for e.number (parts s)) s)) q it)
 
-  counts : (p : Parts) → Stay p (counted e p)
+  pub counts : (p : Parts) → Stay p (counted e p)
   counts p = by (is_bound e.number p.flow && lacks_next e.number p)
     where
       by : (b : Bool) → Stay p (elim b as (λ t. Parts) [ true ↦ lost_attempt e p | false ↦ p ])

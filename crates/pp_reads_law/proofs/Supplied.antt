@@ -1,9 +1,13 @@
 -- What each moment of a read rests on supplies what each of its pieces does.
-use Rattle.std.proofs.Common.{◌≡◌, ◌⊎◌, inl, inr, refl, sym, subst, ap, ◌∙◌, ℕ, suc, false, find, length, [], ◌∷◌, Option}
-use Rattle.pp_closings_law.specs.Sides.{ShowsSides}
+use Rattle.std.proofs.Common.{◌≡◌, ◌⊎◌, inl, inr, refl, sym, subst, ap, ◌∙◌, ℕ, suc, false, find, length, [], ◌∷◌, Option, Some, None}
+use Rattle.pp_cache.specs.Bounds.{IsBounded}
+use Rattle.pp_turns_law.specs.Sides.{ShowsSides}
 use Rattle.pp_events_law.proofs.Standing.{HasWords, turn_by}
 use Rattle.pp_flow_law.specs.Tables.{none_leaves}
+use Rattle.pp_framing.specs.Body.{Done}
+use Rattle.pp_framing.specs.Rules.{body_of}
 use Rattle.pp_law.specs.Lists.{Bytes}
+use Rattle.pp_law.specs.OwnHeads.{is_wrong_head}
 use Rattle.pp_law.specs.Responses.{body_piece, head_came}
 use Rattle.pp_law.specs.State.{State, Answer, Conn, Exchange}
 use Rattle.pp_obeys.proofs.Frames.{Frame, Stays, frame, frame_of, stays}
@@ -17,7 +21,7 @@ use Rattle.pp_reads_law.specs.Reads.{StandsThere, Supplies, SuppliesHead}
 use Rattle.pp_state.specs.Ends.{parts}
 use Rattle.pp_state.specs.Lines.{first_on}
 use Rattle.pp_state.specs.declared.state.State.{State as Turn}
-use Rattle.pp_steps_law.specs.Steps.{ShowsSteps}
+use Rattle.pp_states_law.specs.Steps.{ShowsSteps}
 use Rattle.pp_store.specs.Kept.{KeptMap}
 use Rattle.pp_reads_law.proofs.Calm.{head_given}
 use Rattle.pp_reads_law.proofs.Framed.{framed_by, piece_framed}
@@ -26,13 +30,19 @@ use Rattle.pp_reads_law.proofs.StayReads.{head_stays, reads_stay, step_stays}
 use Rattle.pp_reads_law.specs.Brings.{HeadRestsOn, IsBehindHead, IsBehindPiece, IsMoment, LeadsTo, ReadRestsOn, RestsOn}
 use Rattle.pp_reads_law.specs.Stays.{KnowsAsMuch}
 
-module _ (name : Bytes) (shelf : KeptMap) (n : ℕ) (begins : Both) (from : State) (all : Bytes) (words : HasWords begins.state from) (own : begins.state.name.items ≡ name) (ends : Both) (calm : ends.state.is_astray ≡ false) (rests : ReadRestsOn name shelf n begins from all ends) where
-  -- a moment, and what the turn and the law know at it is what they knew where the read began
+-- the cache is bounded behind each step
+step_bounded : (o : Option Peer) (shelf : KeptMap) (k : ℕ) (here : Remains) (old new : Both) (behind : Option Remains) → IsStepOn o shelf k here old new behind → IsBounded old.state.cache → IsBounded new.state.cache
+step_bounded None shelf k here old new behind on bounded = subst (λ (x : Both). IsBounded x.state.cache) (sym on.0) bounded
+step_bounded (Some peer) shelf k here old new behind on bounded = on.bounded
+
+module _ (name : Bytes) (shelf : KeptMap) (n : ℕ) (begins : Both) (from : State) (all : Bytes) (words : HasWords begins.state from) (own : begins.state.name.items ≡ name) (bounded_first : IsBounded begins.state.cache) (ends : Both) (calm : ends.state.is_astray ≡ false) (rests : ReadRestsOn name shelf n begins from all ends) where
+  -- a moment, and what the turn and the law know at it is what they knew where the read began; the cache is bounded at each
   pub record Moment (x : Both) (s : State) (bytes : Bytes) : Type 0 where
     pub pieces : ℕ
     pub is : IsMoment pieces name shelf n begins from all x s bytes
     pub knows : KnowsAsMuch begins.state x.state
     pub framed : Stays false (frame false from) s
+    pub bounded : IsBounded x.state.cache
     pub leads : LeadsTo shelf n x ends
     pub number : ℕ → ℕ
     pub shows : ShowsSides number name (sides_of x) s
@@ -42,7 +52,7 @@ module _ (name : Bytes) (shelf : KeptMap) (n : ℕ) (begins : Both) (from : Stat
 
   pub first : LeadsTo shelf n begins ends → (number : ℕ → ℕ) → ShowsSides number name (sides_of begins) from → Moment begins from all
   unfolding IsMoment
-  first leads number shows = record { pieces = 0; is = (refl, refl, refl); knows = knows_same begins.state; framed = stays refl; leads = leads; number = number; shows = shows }
+  first leads number shows = record { pieces = 0; is = (refl, refl, refl); knows = knows_same begins.state; framed = stays refl; bounded = bounded_first; leads = leads; number = number; shows = shows }
 
   -- ---- what the turn shows
 
@@ -66,7 +76,7 @@ module _ (name : Bytes) (shelf : KeptMap) (n : ℕ) (begins : Both) (from : Stat
         named = sym (of_frame (λ f. f.settings.name) s m.framed) ∙ sym words.name ∙ own;
         shows = record {
           read = record {
-            turn = turn_by number x.peers x.state s (words_at x s m.knows m.framed) one.bounded (subst (λ (text : Bytes). ShowsSteps number text none_leaves x.peers (parts x.state) s) (sym named) shows.steps);
+            turn = turn_by number x.peers x.state s (words_at x s m.knows m.framed) m.bounded (subst (λ (text : Bytes). ShowsSteps number text none_leaves x.peers (parts x.state) s) (sym named) shows.steps);
             disk = one.disk;
             may = one.may;
             forgotten = one.forgotten;
@@ -77,14 +87,15 @@ module _ (name : Bytes) (shelf : KeptMap) (n : ℕ) (begins : Both) (from : Stat
 
   -- ---- one moment behind the other
 
-  next_is : (x next : Both) (s t : State) (bytes rest : Bytes) → (m : Moment x s bytes) → IsBehindHead shelf n x s bytes next t rest ⊎ IsBehindPiece name shelf n x s bytes next t rest → KnowsAsMuch x.state next.state → Stays false (frame false from) t → LeadsTo shelf n next ends
+  next_is : (x next : Both) (s t : State) (bytes rest : Bytes) → (m : Moment x s bytes) → IsBehindHead shelf n x s bytes next t rest ⊎ IsBehindPiece name shelf n x s bytes next t rest → KnowsAsMuch x.state next.state → Stays false (frame false from) t → IsBounded next.state.cache → LeadsTo shelf n next ends
       → (number : ℕ → ℕ) → ShowsSides number name (sides_of next) t → Moment next t rest
   unfolding IsMoment
-  next_is x next s t bytes rest m behind knows framed leads number shows = record {
+  next_is x next s t bytes rest m behind knows framed bounded_then leads number shows = record {
     pieces = suc m.pieces;
     is = (x, s, bytes, m.is, behind);
     knows = knows_then begins.state x.state next.state m.knows knows;
     framed = framed;
+    bounded = bounded_then;
     leads = leads;
     number = number;
     shows = shows;
@@ -108,12 +119,12 @@ module _ (name : Bytes) (shelf : KeptMap) (n : ℕ) (begins : Both) (from : Stat
     at_name number1 z shows = subst (λ (text : Bytes). ShowsSides number1 text (sides_of z) t) named shows
 
     behind_head : (number1 : ℕ → ℕ) → ShowsSides number1 there.then.settings.name (sides_of next) t → Moment next t it.rest
-    behind_head number1 shows = next_is x next s t bytes it.rest m (inl (record { number = number; conn = k; exchange = e; behind = behind; there = there; head = next; it = it; state = refl; left = refl; then = inl refl })) head_knows head_framed (record { more = more; behind = behind; then = run }) number1 (at_name number1 next shows)
+    behind_head number1 shows = next_is x next s t bytes it.rest m (inl (record { number = number; conn = k; exchange = e; behind = behind; there = there; head = next; it = it; state = refl; left = refl; then = inl refl; ends = inl refl })) head_knows head_framed it.bounded (record { more = more; behind = behind; then = run }) number1 (at_name number1 next shows)
 
-    behind_end : (number1 : ℕ → ℕ) (last : Both) (after : Option Remains) (less : ℕ) → ShowsSides number1 there.then.settings.name (sides_of last) t → IsStepOn (going_on (find (is_number n) next.peers)) shelf n (remaining it.rest []) next last after → GotFrom less shelf n after last ends → Moment last t it.rest
-    behind_end number1 last after less shows step later =
-        next_is x last s t bytes it.rest m (inl (record { number = number; conn = k; exchange = e; behind = behind; there = there; head = next; it = it; state = refl; left = refl; then = inr (after, step) }))
-        (knows_then x.state next.state last.state head_knows (step_stays (going_on (find (is_number n) next.peers)) shelf n (remaining it.rest []) next last after step).knows) head_framed (record { more = less; behind = after; then = later })
+    behind_end : (number1 : ℕ → ℕ) (last : Both) (after : Option Remains) (less : ℕ) → ShowsSides number1 there.then.settings.name (sides_of last) t → is_wrong_head e it.head ≡ false → (body_of it.rule []).outcome ≡ Done [] → IsStepOn (going_on (find (is_number n) next.peers)) shelf n (remaining it.rest []) next last after → GotFrom less shelf n after last ends → Moment last t it.rest
+    behind_end number1 last after less shows right over step later =
+        next_is x last s t bytes it.rest m (inl (record { number = number; conn = k; exchange = e; behind = behind; there = there; head = next; it = it; state = refl; left = refl; then = inr (after, step); ends = inr (right, over) }))
+        (knows_then x.state next.state last.state head_knows (step_stays (going_on (find (is_number n) next.peers)) shelf n (remaining it.rest []) next last after step).knows) head_framed (step_bounded (going_on (find (is_number n) next.peers)) shelf n (remaining it.rest []) next last after step it.bounded) (record { more = less; behind = after; then = later })
         number1 (at_name number1 last shows)
 
     -- memory was refused for no row: this life did not go astray
@@ -128,11 +139,12 @@ module _ (name : Bytes) (shelf : KeptMap) (n : ℕ) (begins : Both) (from : Stat
         let one : HeadRestsOn shelf n next s e bytes behind there.begin there.then there.before there.peer it = (on x s bytes m).heads number next k e behind more run there it in
         record {
           may = one.may;
-          given = head_given (first_on n (parts there.begin.state)) shelf n (with_head n there.peer it.left there.begin) next it.came next_calm one.bounded;
+          given = head_given (first_on n (parts there.begin.state)) shelf n (with_head n there.peer it.left there.begin) next it.came next_calm;
           refused = (head_stays shelf n (with_head n there.peer it.left there.begin) next it.came).refused next_calm none_before;
+          straight = next_calm;
           end = one.end;
           holds = λ number1 shows goes. behind_head number1 shows;
-          ends = λ number1 last after less shows right over step later. behind_end number1 last after less shows step later;
+          ends = λ number1 last after less shows right over step later. behind_end number1 last after less shows right over step later;
         }
 
   behind_piece : (number : ℕ → ℕ) (x z next : Both) (s : State) (k : Conn) (a : Answer) (peer : Peer) (e : Exchange) (b : ℕ) (bytes : Bytes) (here : Remains) (after : Option Remains) (more : ℕ) → Moment x s (b ∷ bytes) → IsWithinBody x s n k a peer e → IsAmidBody x z n peer a (b ∷ bytes) here
@@ -141,7 +153,8 @@ module _ (name : Bytes) (shelf : KeptMap) (n : ℕ) (begins : Both) (from : Stat
       next_is x next s (body_piece k a (b ∷ bytes) s).state (b ∷ bytes) (body_piece k a (b ∷ bytes) s).rest m
       (inr (record { number = number; conn = k; answer = a; peer = peer; exchange = e; amid = z; here = here; after = after; first = b; others = bytes; some = refl; within = within; is_amid = amid; step = step; over = over; state = refl; left = refl }))
       (subst (λ (p : Turn). KnowsAsMuch p next.state) amid.state (step_stays (going_on (find (is_number n) z.peers)) shelf n here z next after step).knows)
-      (piece_framed (frame false from) n b bytes s k a (record { there = within.on.may.there; goes_on = within.on.may.goes_on }) within.on.answer m.framed) (record { more = more; behind = after; then = run }) number over.shows
+      (piece_framed (frame false from) n b bytes s k a (record { there = within.on.may.there; goes_on = within.on.may.goes_on }) within.on.answer m.framed)
+      (step_bounded (going_on (find (is_number n) z.peers)) shelf n here z next after step (subst (λ (p : Turn). IsBounded p.cache) (sym amid.state) m.bounded)) (record { more = more; behind = after; then = run }) number over.shows
 
   pub supplies : Supplies name shelf n ends Moment
   supplies = record {

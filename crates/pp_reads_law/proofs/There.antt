@@ -19,8 +19,8 @@ use Rattle.pp_objects.specs.Kept.{kept_of}
 use Rattle.pp_objects.specs.declared.id.ObjectId.{ObjectId}
 use Rattle.pp_state.specs.Pins.{without_instance}
 use Rattle.pp_reads_law.proofs.Given.{same_numbers}
-use Rattle.pp_steps_law.proofs.Told.{there_before}
-use Rattle.pp_steps_law.specs.Told.{AreTold, EachIsTold, IsTold, IsToldBy}
+use Rattle.pp_states_law.proofs.Told.{there_before}
+use Rattle.pp_states_law.specs.Told.{AreTold, EachIsTold, IsTold, IsToldBy}
 use Rattle.pp_store.specs.Kept.{Kept}
 
 abbrev pub kept_row : ObjectId → List ℕ → Kept → Instance

@@ -3,8 +3,8 @@ use Rattle.std.proofs.Common.{◌≡◌, refl, sym, ap, ◌∙◌, ℕ, Bool, tr
 use Rattle.std.specs.Prelude.{slice_get}
 use Rattle.pp_cache.specs.Memory.{Memory}
 use Rattle.pp_cache_law.specs.Tables.{ShowsTable}
-use Rattle.pp_decides_law.proofs.Sitting.{is_at, shown_at}
-use Rattle.pp_decides_law.specs.Useless.{AllFollow}
+use Rattle.pp_turns_law.proofs.Sitting.{is_at, shown_at}
+use Rattle.pp_turns_law.specs.Useless.{AllFollow}
 use Rattle.pp_desk.specs.Closings.{Sides, closed_conn, with_parts}
 use Rattle.pp_events_law.proofs.Alike.{AreAlike, itself}
 use Rattle.pp_events_law.proofs.Closed.{closes}
@@ -29,7 +29,7 @@ use Rattle.pp_seats.specs.declared.seat.Stage.{Stage}
 use Rattle.pp_seats_law.specs.Seats.{ShowsSeat}
 use Rattle.pp_state.specs.Ends.{Parts}
 use Rattle.pp_state.specs.Lines.{first_on}
-use Rattle.pp_steps_law.specs.Steps.{ShowsSteps}
+use Rattle.pp_states_law.specs.Steps.{ShowsSteps}
 use Rattle.pp_turns_law.specs.Turns.{IsFollowing}
 use Rattle.pp_reads_law.specs.Stays.{AreStill, WasStill}
 

@@ -6,10 +6,10 @@ use Rattle.pp_bodies_law.specs.Ends.{finished_by_law, over_in}
 use Rattle.pp_cache_law.proofs.Finds.{find_mapped, find_passes}
 use Rattle.pp_cache_law.proofs.Numbers.{some_is}
 use Rattle.pp_cache_law.proofs.PairLemmas.{count_mapped_same}
-use Rattle.pp_closings_law.proofs.Orderly.{ended_orderly, mapped}
-use Rattle.pp_closings_law.proofs.Own.{HasEntry, has_entry}
-use Rattle.pp_closings_law.proofs.Peers.{HasPeer, find_set}
-use Rattle.pp_closings_law.specs.Sides.{AreOrderly, IsOrderly, MayClose, ShowsSides}
+use Rattle.pp_turns_law.proofs.Orderly.{ended_orderly, mapped}
+use Rattle.pp_turns_law.proofs.Own.{HasEntry, has_entry}
+use Rattle.pp_turns_law.proofs.Peers.{HasPeer, find_set}
+use Rattle.pp_turns_law.specs.Sides.{AreOrderly, IsOrderly, MayClose, ShowsSides}
 use Rattle.pp_decide.specs.Patience.{may_go_on as may_stay}
 use Rattle.pp_desk.specs.Closings.{Sides, closed_conn}
 use Rattle.pp_endings_law.proofs.Emptied.{close_again, closed_this}
@@ -29,13 +29,13 @@ use Rattle.pp_law.specs.State.{State, Answer, Conn, Exchange}
 use Rattle.pp_origins.specs.Responses.{closed_unless, finished, goes_on_by, response_whole, whole_for}
 use Rattle.pp_peers.specs.Peers.{is_number, with_peer, with_pipe}
 use Rattle.pp_peers.specs.declared.peers.Peer.{Peer}
-use Rattle.pp_peers_law.specs.Peers.{has_alone}
+use Rattle.pp_peers_law.specs.Peers.{has_alone, ShowsStaying}
 use Rattle.pp_pipe.specs.Authentication.{binds_connection}
 use Rattle.pp_pipe.specs.Front.{stays_open}
 use Rattle.pp_pipe.specs.Line.{Line}
 use Rattle.pp_state.specs.Ends.{Parts}
 use Rattle.pp_states_law.specs.Decisions.{AreApart}
-use Rattle.pp_steps_law.specs.Steps.{ShowsSteps}
+use Rattle.pp_states_law.specs.Steps.{ShowsSteps}
 use Rattle.pp_reads_law.proofs.Fronts.{IsFront, is_front}
 use Rattle.pp_reads_law.specs.Bads.{piped}
 use Rattle.pp_reads_law.specs.Wholes.{IsAnsweredOn, WholesAreTheLaws, line_behind}
@@ -110,6 +110,9 @@ module _ (number : ℕ → ℕ) (name : Bytes) (x : Sides) (s : State) (shows : 
   its : own.peer ≡ at
   its = some_is own.peer at (sym own.there ∙ it.linked)
 
+  its_stays : at.stays ≡ stays_open a.head
+  its_stays = subst (λ (o : Option Answer). ShowsStaying at.stays o) it.answer (subst (λ (p : Peer). ShowsStaying p.stays k.answer) its (own.shows.stays may.goes_on))
+
   abbrev entry : HasEntry number x.parts.flow e
   entry = has_entry number none_leaves x.parts.flow s shows.steps.shows.exchanges e first.known
 
@@ -147,7 +150,7 @@ module _ (number : ℕ → ℕ) (name : Bytes) (x : Sides) (s : State) (shows : 
 
   same_test : may_stay at.stays entry.entry.errand.body_left entry.entry.errand.binds_connection ≡ may_go_on e a.head
   same_test =
-      ap (λ (b : Bool). may_stay b entry.entry.errand.body_left entry.entry.errand.binds_connection) it.stays
+      ap (λ (b : Bool). may_stay b entry.entry.errand.body_left entry.entry.errand.binds_connection) its_stays
       ∙ ap₂ (λ (m : ℕ) (b : Bool). stays_open a.head && (m == 0) && not b) entry.shows.body_left entry.shows.binds
 
   -- ---- it stays

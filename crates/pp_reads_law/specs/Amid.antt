@@ -1,10 +1,11 @@
 -- What a turn shows amid a read of an origin.
 --
 -- Where it comes from: `turn`, `disk` and `kept` are those of StandsInTurn, from wait to wait, and of what the program does since; that memory
--- was refused for no row of the turn has no source yet. `may` is of IsSoundTurn (`bounded.rows`, `bounded.bodies`), and that each life
+-- was refused for no row of the turn is of a life that did not go astray. `may` is of IsSoundTurn (`bounded.rows`, `bounded.bodies`), and that each life
 -- that clients name was given is carried. `forgotten` and `evicting` are carried from the beginning of the turn, where none is forgotten.
-use Rattle.std.specs.Prelude.{◌≡◌, ℕ, List}
+use Rattle.std.specs.Prelude.{◌≡◌, ◌≤◌, ℕ, List}
 use Rattle.pp_answers_law.specs.Making.{MayMake}
+use Rattle.pp_answers_law.specs.Owns.{KeepsNumbers}
 use Rattle.pp_flow_law.specs.Tables.{Leaving}
 use Rattle.pp_law.specs.State.{State}
 use Rattle.pp_peers.specs.declared.peers.Peer.{Peer}
@@ -22,6 +23,8 @@ pub record ShowsRead (number : ℕ → ℕ) (l : Leaving) (peers : List Peer) (s
   pub forgotten : p.forgotten ≡ s.forgotten
 
 -- by some numbers: a life that is given has one more
-pub record IsAmidRead (l : Leaving) (peers : List Peer) (shelf : KeptMap) (p : Turn) (s : State) : Type 0 where
+pub record IsAmidRead (before : ℕ → ℕ) (lives next : ℕ) (l : Leaving) (peers : List Peer) (shelf : KeptMap) (p : Turn) (s : State) : Type 0 where
   pub number : ℕ → ℕ
+  pub keeps : KeepsNumbers before number lives p.cache.lives next
+  pub grows : next ≤ s.next_instance
   pub shows : ShowsRead number l peers shelf p s

@@ -5,7 +5,7 @@
 -- piece by piece before it comes to that text (GotsAreUnread of pp_states_law, where no head is whole behind them).
 use Rattle.std.specs.Prelude.{◌≡◌, ◌⊎◌, ℕ, true, false, [], ◌∷◌, ◌++◌, drop, Option, Some, None}
 use Rattle.std.specs.List.{find}
-use Rattle.pp_closings_law.specs.Sides.{ShowsSides}
+use Rattle.pp_turns_law.specs.Sides.{ShowsSides}
 use Rattle.pp_framing.specs.declared.body.BodyRule.{BodyRule}
 use Rattle.pp_head.specs.Read.{More, Whole}
 use Rattle.pp_head.specs.Response.{Response, response_at}

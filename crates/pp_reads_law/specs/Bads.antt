@@ -4,7 +4,7 @@
 -- is none because nothing was asked whole, is what its pipe awaits (AwaitedIsTheLaws of pp_peers_law). MayClose is of IsSoundTurn, and that
 -- more of what is passed is to come while its exchange is there is of `pp_rests_law` (its Closing).
 use Rattle.std.specs.Prelude.{◌≡◌, ℕ, true, false, Some}
-use Rattle.pp_closings_law.specs.Sides.{OfSides, ShowsSides}
+use Rattle.pp_turns_law.specs.Sides.{OfSides, ShowsSides}
 use Rattle.pp_desk.specs.Closings.{Sides}
 use Rattle.pp_law.specs.Connections.{close_conn, conn, front_of_line, is_outstanding}
 use Rattle.pp_law.specs.Responses.{bad_head, bad_response as law_bad_response, is_early}

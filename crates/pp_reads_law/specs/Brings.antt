@@ -2,26 +2,26 @@
 --
 -- Where it comes from stands at each field of `RestsOn`, in the order of Supplies of Reads. A step may end in several ways, as memory may
 -- be refused: meant are the moments from which this read went on to where it ended, where this life did not go astray.
-use Rattle.std.specs.Prelude.{◌≡◌, ◌⊎◌, ◌≤◌, ◌<◌, ℕ, zero, suc, false, [], ◌∷◌, length, Option, Some, None, ⊤}
+use Rattle.std.specs.Prelude.{◌≡◌, ◌⊎◌, ◌≤◌, ◌<◌, ℕ, zero, suc, false, [], ◌∷◌, length, Option, Some, None}
 use Rattle.std.specs.List.{find}
 use Rattle.pp_answers_law.specs.Making.{MayMake}
-use Rattle.pp_cache.specs.Bounds.{IsBounded}
-use Rattle.pp_closings_law.specs.Sides.{ShowsSides}
+use Rattle.pp_framing.specs.Body.{Done}
+use Rattle.pp_framing.specs.Rules.{body_of}
+use Rattle.pp_turns_law.specs.Sides.{ShowsSides}
 use Rattle.pp_law.specs.Lists.{Bytes}
 use Rattle.pp_law.specs.OwnHeads.{is_wrong_head}
 use Rattle.pp_law.specs.Responses.{body_piece, got, head_came}
 use Rattle.pp_law.specs.State.{State, Answer, Conn, Exchange}
-use Rattle.pp_origins.specs.Gots.{Both, GotFrom, HeadCameFor, IsStepOn, Remains, going_on, remaining, sides_of}
+use Rattle.pp_origins.specs.Gots.{Both, GotFrom, IsStepOn, Remains, going_on, remaining, sides_of}
 use Rattle.pp_peers.specs.Peers.{is_number}
 use Rattle.pp_peers.specs.declared.peers.Peer.{Peer}
 use Rattle.pp_reads_law.specs.Bads.{IsDue, IsOpen}
 use Rattle.pp_reads_law.specs.Clears.{HeadIsGot, StandsBefore}
 use Rattle.pp_reads_law.specs.Empties.{MayEnd}
-use Rattle.pp_reads_law.specs.Heads.{MayAnswer, with_head}
+use Rattle.pp_reads_law.specs.Heads.{MayAnswer}
 use Rattle.pp_reads_law.specs.Pieces.{IsAmidBody, IsWithinBody, PieceIsOver}
 use Rattle.pp_reads_law.specs.Reads.{IsAwaited, SuppliesBody}
 use Rattle.pp_state.specs.Ends.{parts}
-use Rattle.pp_state.specs.Lines.{first_on}
 use Rattle.pp_store.specs.Kept.{KeptMap}
 use Rattle.pp_turns_law.specs.Rows.{AllAreKept}
 
@@ -39,6 +39,8 @@ pub record IsBehindHead (shelf : KeptMap) (n : ℕ) (x : Both) (s : State) (byte
   pub state : t ≡ head_came there.before it.head there.then
   pub left : rest ≡ it.rest
   pub then : (next ≡ head) ⊎ ((after : Option Remains) × IsStepOn (going_on (find (is_number n) head.peers)) shelf n (remaining it.rest []) head next after)
+  -- another step alone where it is taken, and its body is empty
+  pub ends : (next ≡ head) ⊎ ((is_wrong_head exchange it.head ≡ false) × ((body_of it.rule []).outcome ≡ Done []))
 
 -- behind a piece of a body, which has a byte at least
 pub record IsBehindPiece (name : Bytes) (shelf : KeptMap) (n : ℕ) (x : Both) (s : State) (bytes : Bytes) (next : Both) (t : State) (rest : Bytes) : Type 0 where
@@ -74,24 +76,14 @@ pub record LeadsTo (shelf : KeptMap) (n : ℕ) (x y : Both) : Type 0 where
 
 -- ---- what each rests on
 
--- the cache stays bounded where the row of its key comes in beside a head
-abbrev pub HeadIsBounded : (first : Option ℕ) (shelf : KeptMap) (n : ℕ) (old new : Both) → HeadCameFor first shelf n old new → Type 0
-HeadIsBounded None shelf n old new it = ⊤
-HeadIsBounded (Some m) shelf n old new it = IsBounded it.beside.cache
-
 -- of a head that came
 pub record HeadRestsOn (shelf : KeptMap) (n : ℕ) (next : Both) (s : State) (e : Exchange) (bytes : Bytes) (behind : Option Remains) (begin : Both) (then : State) (before : Conn) (peer : Peer) (it : HeadIsGot shelf next s n e bytes behind begin then before peer) : Type 0 where
-  -- Heads: IsSoundTurn (`askers`), IsToldOn of pp_laws_coming (`untold`, `coming`), HasWay of its Rows, and that an ask of the
-  -- cache's own is no HEAD
-  pub may : MayAnswer then e it.head
-  -- each cache is (`Memory` of pp_cache, at each call)
-  pub bounded : HeadIsBounded (first_on n (parts begin.state)) shelf n (with_head n peer it.left begin) next it.came
+  -- Heads: IsSoundTurn (`askers`), IsToldOn of pp_laws_coming (`untold`, `coming`), HasWay of its Rows
+  pub may : MayAnswer begin.state then e it.head
   -- Empties: IsSoundTurn (`once`, `pipelines`), IsToldOn (`coming`)
   pub end : is_wrong_head e it.head ≡ false → MayEnd then before e it.head it.rule
 
 pub record RestsOn (shelf : KeptMap) (n : ℕ) (y x : Both) (s : State) (bytes : Bytes) : Type 0 where
-  -- each cache is (`Memory` of pp_cache, at each call)
-  pub bounded : IsBounded x.state.cache
   -- Amid: StandsInTurn from wait to wait, and IsSoundTurn (`bounded.rows`, `bounded.bodies`); that each life that clients name was
   -- given, and what is to be noted, are carried from the beginning of the turn
   pub disk : AllAreKept shelf x.state.cache s
@@ -100,12 +92,12 @@ pub record RestsOn (shelf : KeptMap) (n : ℕ) (y x : Both) (s : State) (bytes :
   -- of the law alone: next_piece-came in proofs/Pieces of pp_laws_sent
   pub enough : (most : ℕ) → length bytes ≤ most → got most n bytes s ≡ got (length bytes) n bytes s
   pub fewer : (k : Conn) (a : Answer) (b : ℕ) (rest : Bytes) → bytes ≡ b ∷ rest → IsOpen s n k → k.answer ≡ Some a → length (body_piece k a (b ∷ rest) s).rest < length (b ∷ rest)
-  -- of the law alone, as before, with `asks` of HeadIsDue, carried from the asking on
-  pub awaits : (k : Conn) (e : Exchange) → IsDue s n k e → k.answer ≡ None → IsAwaited x k e
+  -- of the law alone, as before
+  pub awaits : (k : Conn) (e : Exchange) → IsDue s n k e → k.answer ≡ None → IsAwaited k e
   pub heads : (number : ℕ → ℕ) (next : Both) (k : Conn) (e : Exchange) (behind : Option Remains) (more : ℕ) → GotFrom more shelf n behind next y → (there : StandsBefore number shelf x s n k e) (it : HeadIsGot shelf next s n e bytes behind there.begin there.then there.before there.peer)
       → HeadRestsOn shelf n next s e bytes behind there.begin there.then there.before there.peer it
   -- Pieces, Wholes and Data: IsSoundTurn (`lined`, `placed`, `pipelines`), what a head says of its body, and how much is read at
-  -- once; that a chunk is free for each piece has no source yet
+  -- once; that a chunk is free for each piece `pp_comes_law` has (Moments)
   pub bodies : (k : Conn) (a : Answer) → IsOpen s n k → k.answer ≡ Some a → SuppliesBody x s n k a bytes
 
 -- all of one read, each moment by what is shown there

@@ -4,6 +4,7 @@
 -- Where the premises come from: those of HeadsAreGotAsTheLaws.
 use Rattle.std.specs.Prelude.{◌≡◌, ◌⊎◌, ◌≤◌, ◌<◌, ◌+◌, ℕ, [], ◌∷◌, length, Option, Some}
 use Rattle.std.specs.List.{find}
+use Rattle.pp_cache.specs.Bounds.{IsBounded}
 use Rattle.pp_framing.specs.declared.body.BodyRule.{BodyRule}
 use Rattle.pp_head.specs.Response.{Response}
 use Rattle.pp_law.specs.Lists.{Bytes}
@@ -38,6 +39,8 @@ pub record HeadIsGot (shelf : KeptMap) (next : Both) (s : State) (n : ℕ) (e : 
   pub left : Reading
   pub read : HeadIsRead e head rule left
   pub came : HeadCame shelf n (with_head n peer left begin) next
+  -- as each cache is (IsStep of Gots of `pp_origins`)
+  pub bounded : IsBounded next.state.cache
   pub rest : Bytes
   pub less : ℕ
   pub leaves : behind ≡ Some (remaining rest [])

@@ -3,7 +3,7 @@
 --
 -- Where the premises come from: no more come than are still to come, and within the body (IsToJoin), a chunk is found for them, and the pipe of
 -- the client has room (FindsPipe): the first is of what a head says of its body, the last of how much is read at once (`read_room`); that a chunk
--- is free for each piece of a read has no source yet, as in pp_bodies_law.
+-- is free for each piece of a read `pp_comes_law` has (Moments).
 use Rattle.std.specs.Prelude.{◌≡◌, ℕ, List, [], ◌∷◌, Some, ⊤}
 use Rattle.std.specs.List.{find}
 use Rattle.pp_bodies_law.specs.Bytes.{FindsPipe, IsToJoin}
@@ -19,8 +19,8 @@ use Rattle.pp_origins.specs.Gots.{DataCame}
 use Rattle.pp_peers.specs.declared.peers.Peer.{Peer}
 use Rattle.pp_state.specs.Ends.{parts}
 use Rattle.pp_state.specs.declared.state.State.{State as Turn}
-use Rattle.pp_steps_law.specs.Charges.{IsFor}
-use Rattle.pp_steps_law.specs.Steps.{ShowsSteps}
+use Rattle.pp_states_law.specs.Charges.{IsFor}
+use Rattle.pp_states_law.specs.Steps.{ShowsSteps}
 use Rattle.pp_reads_law.specs.Bads.{IsOpen}
 
 -- there is room for them where they go

@@ -4,7 +4,7 @@
 -- Where the premises come from: those of Heads. That no head stood whole where the read began is of IsAmidHead (pp_states_law), carried.
 use Rattle.std.specs.Prelude.{◌≡◌, ◌⊎◌, ◌≤◌, ℕ, [], ◌∷◌, length, Option, Some, None}
 use Rattle.std.specs.List.{find}
-use Rattle.pp_closings_law.specs.Sides.{ShowsSides}
+use Rattle.pp_turns_law.specs.Sides.{ShowsSides}
 use Rattle.pp_framing.specs.declared.body.BodyRule.{BodyRule}
 use Rattle.pp_head.specs.Response.{Response}
 use Rattle.pp_law.specs.Lists.{Bytes}

@@ -10,10 +10,12 @@ pub mod Gots
 pub mod Heads
 pub mod Interims
 pub mod Keys
+pub mod Lives
 pub mod Pauses
 pub mod Pieces
 pub mod Readable
 pub mod Reads
 pub mod Rows
 pub mod Stays
+pub mod Told
 pub mod Wholes

@@ -5,7 +5,7 @@
 -- with its head), and is what the piece before leaves.
 use Rattle.std.specs.Prelude.{◌≡◌, ℕ, [], Option, Some, None}
 use Rattle.std.specs.List.{find}
-use Rattle.pp_closings_law.specs.Sides.{ShowsSides}
+use Rattle.pp_turns_law.specs.Sides.{ShowsSides}
 use Rattle.pp_framing.specs.Body.{Going}
 use Rattle.pp_framing.specs.Rules.{body_of}
 use Rattle.pp_law.specs.Lists.{Bytes}

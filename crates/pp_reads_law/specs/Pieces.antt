@@ -7,7 +7,7 @@
 -- Where the premises come from: those of Wholes and Data. That the exchange is headed is what `take_head` notes, carried from the head on.
 use Rattle.std.specs.Prelude.{◌≡◌, ◌⊎◌, ◌<◌, ◌≤◌, ◌+◌, ℕ, suc, true, [], ◌∷◌, ◌++◌, length, drop, Option, Some, None}
 use Rattle.std.specs.List.{find}
-use Rattle.pp_closings_law.specs.Sides.{ShowsSides}
+use Rattle.pp_turns_law.specs.Sides.{ShowsSides}
 use Rattle.pp_framing.specs.Rules.{body_of}
 use Rattle.pp_law.specs.Connections.{front_of_line}
 use Rattle.pp_law.specs.Lists.{Bytes}

@@ -29,7 +29,7 @@ use Rattle.pp_proxy.specs.Moving.{Moving, Turning, at_desk}
 use Rattle.pp_seats.specs.declared.seat.Brought.TheVariants.{Joins}
 use Rattle.pp_seats.specs.declared.seat.Seat.{Seat}
 use Rattle.pp_state.specs.declared.state.State.{State as Turn}
-use Rattle.pp_steps_law.specs.Told.{IsTold}
+use Rattle.pp_states_law.specs.Told.{IsTold}
 use Rattle.pp_turns_law.specs.Turns.{IsFollowing}
 use Rattle.pp_world.specs.Log.{AppendsAll, Log}
 use Rattle.pp_world.specs.declared.event.Event.TheVariants.{Readable}
@@ -53,7 +53,7 @@ pub record MayRead (k : ℕ) (x : Turning) (s : State) (j : Conn) : Type 0 where
 
 -- ---- and what the bytes rest on that it brings, beside each moment of `Brings`
 
--- behind them what each client follows is there: a row that is followed leaves memory by no step of a read (idle_row): no source yet
+-- behind them what each client follows is there: a row that is followed leaves memory by no step of a read (Named of `pp_comes_law`)
 abbrev pub AreFollowed : Turn → Type 0
 AreFollowed p = (i : ℕ) (seat : Seat) → slice_get p.seats.items i ≡ Some seat → seat.is_closing ≡ false → IsFollowing p.cache seat
 

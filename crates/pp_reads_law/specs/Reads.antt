@@ -4,16 +4,14 @@
 -- rests on. A step may end in several ways, as memory may be refused: supplied is what those rest on from which this read went on to where it ended.
 use Rattle.std.specs.Prelude.{◌≡◌, ◌⊎◌, ◌≤◌, ◌<◌, ℕ, Bool, true, false, [], ◌∷◌, length, Option, Some, None}
 use Rattle.std.specs.List.{find}
-use Rattle.pp_closings_law.specs.Sides.{ShowsSides}
-use Rattle.pp_flow.specs.Changes.{entry_of}
-use Rattle.pp_flow.specs.declared.entry.Entry.{Entry}
+use Rattle.pp_turns_law.specs.Sides.{ShowsSides}
 use Rattle.pp_framing.specs.Body.{Done, Going}
 use Rattle.pp_framing.specs.Rules.{body_of}
 use Rattle.pp_head.specs.Read.{More}
 use Rattle.pp_head.specs.Response.{response_at}
 use Rattle.pp_law.specs.Lists.{Bytes}
 use Rattle.pp_law.specs.OwnHeads.{is_wrong_head}
-use Rattle.pp_law.specs.Responses.{asks_head, body_piece, got, head_came}
+use Rattle.pp_law.specs.Responses.{body_piece, got, head_came}
 use Rattle.pp_law.specs.Stages.{is_headed}
 use Rattle.pp_law.specs.State.{State, Answer, Conn, Exchange}
 use Rattle.pp_origins.specs.Gots.{Both, GotFrom, HasGot, IsStepOn, Remains, going_on, remaining, sides_of}
@@ -37,16 +35,16 @@ pub record StandsThere (number : ℕ → ℕ) (name : Bytes) (shelf : KeptMap) (
   pub shows : ShowsBoth number shelf x s
 
 -- a head is awaited: none stands whole among what is unread
-pub record IsAwaited (x : Both) (k : Conn) (e : Exchange) : Type 0 where
+pub record IsAwaited (k : Conn) (e : Exchange) : Type 0 where
   pub unread : response_at k.unread ≡ More
   pub none : is_headed e ≡ false
-  pub asks : (y : Entry) → entry_of e.number x.state.flow ≡ Some y → y.errand.asks_head ≡ asks_head e
 
--- a head came: it may be answered, memory is refused for no row, and where it goes on whatever supplies it holds, too
+-- a head came: it may be answered, memory is refused for no row, this life did not go astray, and where it goes on whatever supplies it holds, too
 pub record SuppliesHead (shelf : KeptMap) (n : ℕ) (y : Both) (I : Both → State → Bytes → Type 0) (next : Both) (s : State) (e : Exchange) (bytes : Bytes) (behind : Option Remains) (begin : Both) (then : State) (before : Conn) (peer : Peer) (it : HeadIsGot shelf next s n e bytes behind begin then before peer) : Type 0 where
-  pub may : MayAnswer then e it.head
+  pub may : MayAnswer begin.state then e it.head
   pub given : IsGivenHead (first_on n (parts begin.state)) shelf n (with_head n peer it.left begin) next it.came
   pub refused : next.state.refused ≡ []
+  pub straight : next.state.is_astray ≡ false
   pub end : is_wrong_head e it.head ≡ false → MayEnd then before e it.head it.rule
   pub holds : (number : ℕ → ℕ) → ShowsSides number then.settings.name (sides_of next) (head_came before it.head then) → (is_wrong_head e it.head ≡ true) ⊎ ((body_of it.rule []).outcome ≡ Going) → I next (head_came before it.head then) it.rest
   -- and of an empty body, behind the step that ends it
@@ -67,8 +65,8 @@ pub record Supplies (name : Bytes) (shelf : KeptMap) (n : ℕ) (y : Both) (I : B
   -- a body does not end it, so that either ends behind one that came now (as in `got-came` of pp_laws_sent)
   pub enough : (most : ℕ) (x : Both) (s : State) (bytes : Bytes) → I x s bytes → length bytes ≤ most → got most n bytes s ≡ got (length bytes) n bytes s
   pub fewer : (x : Both) (s : State) (k : Conn) (a : Answer) (b : ℕ) (bytes : Bytes) → I x s (b ∷ bytes) → IsOpen s n k → k.answer ≡ Some a → length (body_piece k a (b ∷ bytes) s).rest < length (b ∷ bytes)
-  -- of the law alone, and `asks` of HeadIsDue, carried from the asking on
-  pub awaits : (x : Both) (s : State) (bytes : Bytes) (k : Conn) (e : Exchange) → I x s bytes → IsDue s n k e → k.answer ≡ None → IsAwaited x k e
+  -- of the law alone
+  pub awaits : (x : Both) (s : State) (bytes : Bytes) (k : Conn) (e : Exchange) → I x s bytes → IsDue s n k e → k.answer ≡ None → IsAwaited k e
   -- as Heads and Empties have it
   pub heads : (number : ℕ → ℕ) (x next : Both) (s : State) (k : Conn) (e : Exchange) (bytes : Bytes) (behind : Option Remains) (more : ℕ) → I x s bytes → GotFrom more shelf n behind next y → (there : StandsBefore number shelf x s n k e) (it : HeadIsGot shelf next s n e bytes behind there.begin there.then there.before there.peer)
       → SuppliesHead shelf n y I next s e bytes behind there.begin there.then there.before there.peer it

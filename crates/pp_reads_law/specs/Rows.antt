@@ -2,8 +2,8 @@
 -- most 1,024. The law has that one leave before, the program behind.
 --
 -- Where the premises come from: of the rows that stand in memory 320 at most are busy (`rows_busy` in proofs/SmallRows of pp_laws_bounds, of each
--- state of a lawful log; amid an event no clause says it yet), so where there are 1,024 one is idle. A turn forgets fewer than 16 rows, each once,
--- as the pieces of one read have no more heads: no source yet. No key of a row has more than 8,192 bytes (the type of pp_target).
+-- state of a lawful log), so where there are 1,024 one is idle. A turn forgets fewer than 16 rows, each once, as the pieces of one read have 8 heads at
+-- most (Moments of `pp_comes_law`). No key of a row has more than 8,192 bytes (the type of pp_target).
 use Rattle.std.specs.Prelude.{◌≡◌, ℕ, true, false, nat_le, nat_lt, length, List, Option, Some, None, ⊤}
 use mathlib.Core.Logic.{inl, inr}
 use Rattle.pp_cache.specs.Bounds.{IsBounded}
@@ -52,9 +52,9 @@ IsGivenFor shelf (Some key) old new it = IsGivenRow shelf key old it.entered it.
 -- of a key, whether its row is in memory, or kept, or not there at all; the cache is bounded, as each is
 abbrev pub RowsComeInWithRoom : Type 0
 RowsComeInWithRoom = (number : ℕ → ℕ) (l : Leaving) (peers : List Peer) (shelf : KeptMap) (key : Bytes) (p q : Turn) (s : State) → ShowsRead number l peers shelf p s → MayMakeRoom s → (it : HasRowFor shelf (Some key) p q) → IsGivenFor shelf (Some key) p q it → IsBounded q.cache
-    → IsAmidRead l peers shelf q (enter key true s)
+    → IsAmidRead number p.cache.lives s.next_instance l peers shelf q (enter key true s)
 
 -- of the key of an exchange, beside a head that is read on
 abbrev pub RowsAreBroughtAsTheLaws : Type 0
 RowsAreBroughtAsTheLaws = (number : ℕ → ℕ) (l : Leaving) (peers : List Peer) (shelf : KeptMap) (p q : Turn) (s : State) (n : ℕ) (x : Entry) (e : Exchange) (head : Response) → ShowsRead number l peers shelf p s → MayMakeRoom s → entry_of n p.flow ≡ Some x → ShowsExchange number x e
-    → is_readable e head ≡ true → (it : HasRowFor shelf (key_of n p.flow) p q) → IsGivenFor shelf (key_of n p.flow) p q it → IsBounded q.cache → IsAmidRead l peers shelf q (bring_row e head s)
+    → is_readable e head ≡ true → (it : HasRowFor shelf (key_of n p.flow) p q) → IsGivenFor shelf (key_of n p.flow) p q it → IsBounded q.cache → IsAmidRead number p.cache.lives s.next_instance l peers shelf q (bring_row e head s)

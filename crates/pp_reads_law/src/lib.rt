@@ -16,7 +16,7 @@
 //! what the turn knows beside them. `Keys` has of each event that memory was given for the key of each head that was read, in a life that did
 //! not go astray by it.
 //!
-//! Not said: a head to the ask of a follower, and one that is passed and names other places; and which replies end behind a read, which is in
+//! Not said: a head to the ask of a follower; and which replies end behind a read, which is in
 //! `pp_endings_law`. Nor is anything said of a turn in which memory was refused for a row.
 //!
 //! To the layer above: each is the clause of a function that does nothing. It is one part of the proof that the program obeys the law. The
@@ -33,11 +33,13 @@ mod empties; // the end of an empty body
 mod getting; // an origin is read, and replies that are over end
 mod giving; // memory for the keys of heads that are read in an event
 mod heads; // the final head of a response
+mod lives; // lives that were given
 mod pauses; // no byte is left amid a body
 mod pieces; // what a read brings amid a body
 mod reads; // a whole read
 mod rows; // the row that is kept of the key of an exchange
 mod staying; // what a read leaves as it was
+mod telling; // what was joined is told by its number
 mod wholes; // a response is whole
 
 pub use awaits::{
@@ -50,9 +52,11 @@ pub use empties::empty_bodies_end_as_the_laws;
 pub use getting::origins_are_read_as_by_the_law;
 pub use giving::events_give_keys_unless_astray;
 pub use heads::heads_come_as_the_laws;
+pub use lives::lives_go_on_in_reads;
 pub use pauses::pauses_change_nothing;
 pub use pieces::bodies_are_read_as_the_laws;
 pub use reads::reads_are_got_as_the_laws;
 pub use rows::rows_are_brought_as_the_laws;
 pub use staying::reads_leave_clients_at_their_requests;
+pub use telling::steps_leave_all_told;
 pub use wholes::whole_responses_end_as_the_laws;

@@ -1,7 +1,7 @@
 -- Closings may come.
 use Rattle.std.proofs.Common.{◌≡◌, ◌≤◌, refl, sym, ◌∙◌, subst, ℕ, false, find, length, List, [], ◌∷◌, Some, inl, inr, arith}
 use Rattle.pp_cache_law.proofs.Numbers.{some_is}
-use Rattle.pp_closings_law.specs.Sides.{AreOrderly, IsOrderly}
+use Rattle.pp_turns_law.specs.Sides.{AreOrderly, IsOrderly}
 use Rattle.pp_rests_law.specs.Closing.{ClosingsMayCome, NoneIsRefused}
 use Rattle.pp_law.specs.Connections.{exchange, is_client, is_exchange}
 use Rattle.pp_law.specs.State.{State, Client, Conn, Exchange, Term}
@@ -12,9 +12,9 @@ use Rattle.pp_laws_coming.specs.Coming.{IsToldOn}
 use Rattle.pp_laws_turn.proofs.Laws.{sound_turns}
 use Rattle.pp_laws_turn.specs.SoundTurn.{HasAsker, IsSoundTurn}
 use Rattle.pp_obeys.specs.Obeys.{Obeys}
-use Rattle.pp_steps_law.specs.Charges.{GoesOn}
-use Rattle.pp_steps_law.specs.Lines.{AllGo}
-use Rattle.pp_steps_law.specs.Losses.{IsComing}
+use Rattle.pp_states_law.specs.Charges.{GoesOn}
+use Rattle.pp_states_law.specs.Lines.{AllGo}
+use Rattle.pp_states_law.specs.Losses.{IsComing}
 use Rattle.pp_world.specs.Log.{Log}
 
 all_orderly : (ks : List Conn) → ((k : Conn) → IsIn k ks → IsOrderly k) → AreOrderly ks

@@ -2,8 +2,8 @@
 use Rattle.std.proofs.Common.{◌≡◌, refl, sym, ap, ◌∙◌, ℕ, Bool, true, false, ◌||◌, find, List, [], Option, Some, None, option_map}
 use Rattle.std.specs.Prelude.{option_and_then, slice_get}
 use Rattle.pp_cache_law.specs.Tables.{ShowsTable}
-use Rattle.pp_decides_law.proofs.Keyed.{keys_same}
-use Rattle.pp_decides_law.proofs.Sitting.{is_at, shown_at}
+use Rattle.pp_turns_law.proofs.Keyed.{keys_same}
+use Rattle.pp_turns_law.proofs.Sitting.{is_at, shown_at}
 use Rattle.pp_deciding_law.proofs.Disk.{shows_disk}
 use Rattle.pp_deciding_law.proofs.Due.{IsUnbegun, due_by, its_due, not_begun, unbegun_by}
 use Rattle.pp_deciding_law.proofs.Found.{IsButForMemory, first_keeps, found_due}

@@ -2,9 +2,9 @@
 use Rattle.std.proofs.Common.{◌≡◌, ◌⊎◌, ◌≤◌, ◌<◌, inl, inr, refl, sym, subst, ap, ap₂, ◌∙◌, ℕ, ◌+◌, ◌-◌, ◌^◌, Bool, true, false, not, ◌&&◌, ◌||◌, nat_lt, filter, filter_map, length, List, [], Option, Some, None, option_map, Result, Ok, Err, arith}
 use Rattle.std.proofs.lemmas.Bool.Decides.{nat_tests}
 use Rattle.std.specs.Prelude.{is_some, option_and_then, slice_get}
-use Rattle.pp_decides_law.specs.Decides.{FollowsWhatIsThere}
-use Rattle.pp_decides_law.specs.Follows.{FollowsNoRow}
-use Rattle.pp_decides_law.specs.Ways.{left_for}
+use Rattle.pp_turns_law.specs.Decides.{FollowsWhatIsThere}
+use Rattle.pp_turns_law.specs.Follows.{FollowsNoRow}
+use Rattle.pp_turns_law.specs.Ways.{left_for}
 use Rattle.pp_deciding_law.proofs.Framed.{row_beside}
 use Rattle.pp_deciding_law.specs.Takes.{MayDoNext, room_made, to_take}
 use Rattle.pp_due.specs.Entering.{key_at}

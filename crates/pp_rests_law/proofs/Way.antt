@@ -8,7 +8,7 @@ use Rattle.pp_cache_law.proofs.Alike.{unfollowed}
 use Rattle.pp_cache_law.proofs.Numbers.{is_same, same_test, some_is}
 use Rattle.pp_cache_law.specs.Pairs.{AreAll}
 use Rattle.pp_cache_law.specs.Tables.{ShowsInstance, ShowsTable}
-use Rattle.pp_decides_law.specs.Decides.{FollowsWhatIsThere}
+use Rattle.pp_turns_law.specs.Decides.{FollowsWhatIsThere}
 use Rattle.pp_law.specs.Lists.{Bytes, is_some_with, is_this}
 use Rattle.pp_law.specs.State.{State, Client, Instance as Known, Reply, Stage, Undecided, Waiting, Passing, Answering}
 use Rattle.pp_law.specs.Table.{follows}

@@ -1,6 +1,6 @@
 -- Closings may come in each state that a lawful log may go on as from, where memory was refused for no row that somebody who goes on waits for (RFC 2616, section 8.1).
 use Rattle.std.specs.Prelude.{◌≡◌, false, List}
-use Rattle.pp_closings_law.specs.Sides.{MayClose}
+use Rattle.pp_turns_law.specs.Sides.{MayClose}
 use Rattle.pp_law.specs.State.{State, Client, Term}
 use Rattle.pp_laws.specs.Runs.{IsIn}
 use Rattle.pp_obeys.specs.Obeys.{Obeys}

@@ -1,16 +1,15 @@
 -- What waits can be asked still behind a decision: of an ask that begins, the host stands in the text of its key, and its text is short.
-use Rattle.std.proofs.Common.{◌≡◌, ◌≤◌, refl, sym, subst, ap, ◌∙◌, ℕ, Bool, true, false, ◌&&◌, ◌+◌, length, List, [], ◌∷◌, ◌++◌, Option, Some, None, nat_le, arith}
+use Rattle.std.proofs.Common.{◌≡◌, ◌≤◌, refl, sym, subst, ap, ◌∙◌, ℕ, Bool, true, false, ◌+◌, length, List, [], ◌∷◌, ◌++◌, Option, Some, None, nat_le, arith}
 use Rattle.std.proofs.lemmas.Bool.Decides.{nat_tests}
 use Rattle.std.specs.Prelude.{option_map, slice_get, slice_set}
 use Rattle.pp_cache.specs.Memory.{Memory}
 use Rattle.pp_cache_law.proofs.Numbers.{some_is}
 use Rattle.pp_client.specs.Requests.{Front, Nothing, Begun, Asked as IsAsked, Refused, current_of}
 use Rattle.pp_decide.specs.Decide.{fits, kind_of, text_by}
-use Rattle.pp_decides_law.proofs.Changed.{get_set}
-use Rattle.pp_decides_law.proofs.Sitting.{interim_front}
+use Rattle.pp_turns_law.proofs.Changed.{get_set}
+use Rattle.pp_turns_law.proofs.Sitting.{interim_front}
 use Rattle.pp_flow.specs.Changes.{Exchanges}
 use Rattle.pp_flow.specs.Entries.{begun_with}
-use Rattle.pp_flow.specs.Errands.{asks_as_asked}
 use Rattle.pp_flow.specs.declared.entry.Aim.{Aim}
 use Rattle.pp_flow.specs.declared.entry.Exchange.{Exchange}
 use Rattle.pp_flow.specs.declared.errand.Errand.{Errand}
@@ -20,10 +19,8 @@ use Rattle.pp_objects.specs.Instances.{Instance, id_of, row_of}
 use Rattle.pp_objects.specs.declared.id.ObjectId.{ObjectId}
 use Rattle.pp_places_law.proofs.Askable.{CanBeAsked}
 use Rattle.pp_places_law.proofs.Entries.{askable_last}
-use Rattle.pp_places_law.specs.Around.{AreAskable, is_passed}
-use Rattle.pp_plan.specs.Fetch.{fetch_range}
+use Rattle.pp_places_law.specs.Around.{AreAskable}
 use Rattle.pp_seats.specs.Decided.{with_interim}
-use Rattle.pp_seats.specs.Fetches.{fetch_by}
 use Rattle.pp_seats.specs.Heads.{asked_in, owned_in}
 use Rattle.pp_seats.specs.declared.front.Asked.{Asked}
 use Rattle.pp_seats.specs.declared.front.Front.{Front as SeatFront}
@@ -35,86 +32,57 @@ use Rattle.pp_state.specs.declared.state.State.{State as Turn}
 use Rattle.pp_steps.specs.Evicting.{given_way, row_in_way, without_row}
 use Rattle.pp_take.specs.Deciding.{Ask, Does, Takes, accounted, aim_for, answered_at, ask_at, ask_for, ask_for_kind, asked_by, asked_with, begun_by, begun_for, begun_of, by_asked, by_front, by_key, by_seat, errand_by, exchange_begun, followed_at, followed_by, following, is_pass, is_served_by, left_all, left_if_useless, left_useless, marked_at, marked_for, may_ask, of_request, origin_asked, relayed, row_at, row_followed}
 use Rattle.pp_target.specs.Key.{IsPlaceIn}
-use Rattle.pp_valid.specs.declared.version.Version.{Version}
 use Rattle.pp_world.specs.declared.note.Decision.{Decision}
 use Rattle.pp_world.specs.declared.note.Decision.TheVariants.{Refuse, Hit, Part, Head, NotModified, Unsatisfiable, Relay, Validate, Fetch, Pass}
 use Rattle.pp_rounds_law.proofs.Asking.{decision_can, source_can}
 
 -- ---- what a decision asks
 
--- an own one never asks for a head alone
-abbrev Plain : Decision → Kind → Type 0
-Plain d kind = is_passed (aim_for (is_pass d)) ≡ false → asks_as_asked kind ≡ false
-
-fetch_plain : (o : Option (ℕ × Option ℕ)) → asks_as_asked (fetch_by o) ≡ false
-fetch_plain None = refl
-fetch_plain (Some range) = refl
-
-kind_plain : (head : Request) (version : Option Version) (d : Decision) (kind : Kind) → kind_of head version d ≡ Some kind → Plain d kind
-kind_plain head version Fetch kind is own = ap asks_as_asked (sym (some_is (fetch_by (fetch_range head.fields)) kind is)) ∙ fetch_plain (fetch_range head.fields)
-kind_plain head None Validate kind is own = absurd (cc is)
-kind_plain head (Some v) Validate kind is own = ap asks_as_asked (sym (some_is _ kind is))
-kind_plain head version Pass kind is own = absurd (cc own)
-kind_plain head version (Refuse status) kind is own = absurd (cc is)
-kind_plain head version (Hit from to) kind is own = absurd (cc is)
-kind_plain head version (Part from to) kind is own = absurd (cc is)
-kind_plain head version Head kind is own = absurd (cc is)
-kind_plain head version NotModified kind is own = absurd (cc is)
-kind_plain head version Unsatisfiable kind is own = absurd (cc is)
-kind_plain head version Relay kind is own = absurd (cc is)
-
 -- by the key of the request of a seat
-record Fits (d : Decision) (front : SeatFront) (ask : Ask) : Type 0 where
+record Fits (front : SeatFront) (ask : Ask) : Type 0 where
   place : (key : Key) → owned_in (asked_in front) ≡ Some key → IsPlaceIn key.text.items ask.0.place
   short : length ask.1 ≤ 16384
-  head : is_passed (aim_for (is_pass d)) ≡ false → ask.0.asks_head ≡ false
 
 fits_is : (n : ℕ) → nat_le n 16384 ≡ true → n ≤ 16384
 fits_is n is = grind (arith, nat_tests)
 
-and_false : (a b : Bool) → a ≡ false → (a && b) ≡ false
-and_false true b is = absurd (cc is)
-and_false false b is = refl
-
 module _ (name : List ℕ) (d : Decision) (m : Memory) (seat : Seat) (ask : Ask) where
-  by_text : (a : Asked) (key : Key) (head : Request) (kind : Kind) → asked_in seat.front ≡ Some a → a.key ≡ Some key → Plain d kind → (b : Bool) → fits (text_by name head key kind) ≡ b
-      → option_map (λ (x : Ask). (of_request a seat.body_left head x.0, x.1)) (elim b as (λ t. Option Ask) [ true ↦ Some (errand_by a key head kind, text_by name head key kind) | false ↦ None ]) ≡ Some ask → Fits d seat.front ask
-  by_text a key head kind asked keyed plain false fit is = absurd (cc is)
-  by_text a key head kind asked keyed plain true fit is =
+  by_text : (a : Asked) (key : Key) (head : Request) (kind : Kind) → asked_in seat.front ≡ Some a → a.key ≡ Some key → (b : Bool) → fits (text_by name head key kind) ≡ b
+      → option_map (λ (x : Ask). (of_request a seat.body_left head x.0, x.1)) (elim b as (λ t. Option Ask) [ true ↦ Some (errand_by a key head kind, text_by name head key kind) | false ↦ None ]) ≡ Some ask → Fits seat.front ask
+  by_text a key head kind asked keyed false fit is = absurd (cc is)
+  by_text a key head kind asked keyed true fit is =
       let same : (of_request a seat.body_left head (errand_by a key head kind), text_by name head key kind) ≡ ask = some_is _ ask is in
       record {
         place = λ own is_own.
             let this : key ≡ own = some_is key own (sym (ap (λ (o : Option Asked). owned_in o) asked ∙ keyed) ∙ is_own) in
             subst (λ (x : Ask). IsPlaceIn own.text.items x.0.place) same (subst (λ (k : Key). IsPlaceIn k.text.items key.place) this key.within);
         short = subst (λ (x : Ask). length x.1 ≤ 16384) same (fits_is (length (text_by name head key kind)) fit);
-        head = λ own. subst (λ (x : Ask). x.0.asks_head ≡ false) same (and_false (asks_as_asked kind) a.is_head (plain own));
       }
 
-  by_kind : (a : Asked) (key : Key) (head : Request) → asked_in seat.front ≡ Some a → a.key ≡ Some key → (o : Option Kind) → ((kind : Kind) → o ≡ Some kind → Plain d kind) → ask_for_kind name seat a key head o ≡ Some ask → Fits d seat.front ask
-  by_kind a key head asked keyed None plain is = absurd (cc is)
-  by_kind a key head asked keyed (Some kind) plain is = by_text a key head kind asked keyed (plain kind refl) (fits (text_by name head key kind)) refl is
+  by_kind : (a : Asked) (key : Key) (head : Request) → asked_in seat.front ≡ Some a → a.key ≡ Some key → (o : Option Kind) → ask_for_kind name seat a key head o ≡ Some ask → Fits seat.front ask
+  by_kind a key head asked keyed None is = absurd (cc is)
+  by_kind a key head asked keyed (Some kind) is = by_text a key head kind asked keyed (fits (text_by name head key kind)) refl is
 
-  by_head : (a : Asked) (key : Key) → asked_in seat.front ≡ Some a → a.key ≡ Some key → (front : Front) → by_front (ask_for name d m seat a key) front ≡ Some ask → Fits d seat.front ask
+  by_head : (a : Asked) (key : Key) → asked_in seat.front ≡ Some a → a.key ≡ Some key → (front : Front) → by_front (ask_for name d m seat a key) front ≡ Some ask → Fits seat.front ask
   by_head a key asked keyed Nothing is = absurd (cc is)
   by_head a key asked keyed Begun is = absurd (cc is)
   by_head a key asked keyed (Refused status) is = absurd (cc is)
   by_head a key asked keyed (IsAsked head fault) is =
-      by_kind a key head asked keyed (kind_of head (option_map (λ i. i.version) (row_of key.text.items m.instances)) d)
-      (λ kind its. kind_plain head (option_map (λ i. i.version) (row_of key.text.items m.instances)) d kind its) is
+      by_kind a key head asked keyed (kind_of head (option_map (λ i. i.version) (row_of key.text.items m.instances)) d) is
 
-  by_owned : (a : Asked) → asked_in seat.front ≡ Some a → (o : Option Key) → a.key ≡ o → by_key (ask_for name d m seat a) (current_of seat.client.heard) o ≡ Some ask → Fits d seat.front ask
+  by_owned : (a : Asked) → asked_in seat.front ≡ Some a → (o : Option Key) → a.key ≡ o → by_key (ask_for name d m seat a) (current_of seat.client.heard) o ≡ Some ask → Fits seat.front ask
   by_owned a asked None keyed is = absurd (cc is)
   by_owned a asked (Some key) keyed is = by_head a key asked keyed (current_of seat.client.heard) is
 
-  fits_of : (o : Option Asked) → asked_in seat.front ≡ o → by_asked (ask_for name d m seat) (current_of seat.client.heard) o ≡ Some ask → Fits d seat.front ask
+  fits_of : (o : Option Asked) → asked_in seat.front ≡ o → by_asked (ask_for name d m seat) (current_of seat.client.heard) o ≡ Some ask → Fits seat.front ask
   fits_of None asked is = absurd (cc is)
   fits_of (Some a) asked is = by_owned a asked a.key refl is
 
 -- ---- it begins
 
-begun_can : (key : Key) (client : ℕ) (aim : Aim) (errand : Errand) (text : List ℕ) (p : Parts) → IsPlaceIn key.text.items errand.place → length text ≤ 16384 → (is_passed aim ≡ false → errand.asks_head ≡ false) → CanBeAsked p
+begun_can : (key : Key) (client : ℕ) (aim : Aim) (errand : Errand) (text : List ℕ) (p : Parts) → IsPlaceIn key.text.items errand.place → length text ≤ 16384 → CanBeAsked p
     → CanBeAsked (record p { flow = begun_by key client aim errand text p.flow })
-begun_can key client aim errand text p place short head can = by (may_ask p.flow)
+begun_can key client aim errand text p place short can = by (may_ask p.flow)
   where
     by : (b : Bool)
         → CanBeAsked (record p {
@@ -123,7 +91,7 @@ begun_can key client aim errand text p place short head can = by (may_ask p.flow
             | false ↦ p.flow
           ];
         })
-    by true = (askable_last p.flow.waiting (begun_with p.flow.begun client key.text.items aim errand text) can.0 (record { place = place; short = short; head = head }), can.1)
+    by true = (askable_last p.flow.waiting (begun_with p.flow.begun client key.text.items aim errand text) can.0 (record { place = place; short = short }), can.1)
     by false = can
 
 -- the client at a place had that request before
@@ -180,14 +148,14 @@ module _ (name : List ℕ) (i : ℕ) (d : Decision) (p : Parts) (can : CanBeAske
       left_can : CanBeAsked left
       left_can = decision_can i quit quit_can
 
-      fits_for : (new : Seat) → WasAsking i p new → Fits d new.front ask
+      fits_for : (new : Seat) → WasAsking i p new → Fits new.front ask
       fits_for new was =
-          subst (λ (f : SeatFront). Fits d f ask) (sym was.front)
+          subst (λ (f : SeatFront). Fits f ask) (sym was.front)
           (fits_of name d p.cache was.old ask (asked_in was.old.front) refl (sym (ap (λ (o : Option Seat). by_seat (ask_for name d p.cache) o) was.here) ∙ is))
 
-      owned : (new : Seat) → Fits d new.front ask → (o : Option Key) → owned_in (asked_in new.front) ≡ o → CanBeAsked (record left { flow = begun_of o new.client.id (aim_for (is_pass d)) ask.0 ask.1 left.flow })
+      owned : (new : Seat) → Fits new.front ask → (o : Option Key) → owned_in (asked_in new.front) ≡ o → CanBeAsked (record left { flow = begun_of o new.client.id (aim_for (is_pass d)) ask.0 ask.1 left.flow })
       owned new its None keyed = left_can
-      owned new its (Some key) keyed = begun_can key new.client.id (aim_for (is_pass d)) ask.0 ask.1 left (its.place key keyed) its.short its.head left_can
+      owned new its (Some key) keyed = begun_can key new.client.id (aim_for (is_pass d)) ask.0 ask.1 left (its.place key keyed) its.short left_can
 
       by : (o : Option Seat) → slice_get left.seats i ≡ o → CanBeAsked (record left { flow = begun_for o (aim_for (is_pass d)) ask.0 ask.1 left.flow })
       by None here = left_can

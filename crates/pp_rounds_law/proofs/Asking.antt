@@ -57,10 +57,10 @@ abbrev Can : Exchanges → Type 0
 Can f = AreAskable f.waiting × AreAskable f.placed
 
 anew_askable : (x : Entry) → IsAskable x → IsAskable (asking (record x.errand { asked = 0 }) x)
-anew_askable x ask = record { place = ask.place; short = ask.short; head = ask.head }
+anew_askable x ask = record { place = ask.place; short = ask.short }
 
 place_askable : (o : Option ℕ) (x : Entry) → IsAskable x → IsAskable (with_place o x)
-place_askable o x ask = record { place = ask.place; short = ask.short; head = ask.head }
+place_askable o x ask = record { place = ask.place; short = ask.short }
 
 askable_entered : (x : Entry) (xs : List Entry) → IsAskable x → AreAskable xs → AreAskable (entered x xs)
 askable_entered x [] one all = (one, tt)
@@ -165,7 +165,7 @@ given_up_can (n ∷ ns) p can = given_up_can ns (given_up_if n p) (by (is_useles
 -- ---- a client leaves its exchange
 
 nobodys_can : (x : Entry) → IsAskable x → IsAskable (nobodys x)
-nobodys_can x ask = record { place = ask.place; short = ask.short; head = ask.head }
+nobodys_can x ask = record { place = ask.place; short = ask.short }
 
 all_changed : (n : ℕ) (xs : List Entry) → AreAskable xs → AreAskable (changed n nobodys xs)
 all_changed n [] all = tt

@@ -3,10 +3,10 @@ use Rattle.std.proofs.Common.{◌≡◌, refl, sym, subst, ap, ◌∙◌, ℕ, B
 use Rattle.std.specs.Prelude.{option_and_then, slice_get, slice_set}
 use Rattle.pp_cache.specs.Memory.{Memory}
 use Rattle.pp_cache_law.proofs.Numbers.{is_same, some_is}
-use Rattle.pp_decides_law.proofs.Changed.{get_set}
-use Rattle.pp_decides_law.proofs.Refused.{left_stands}
-use Rattle.pp_decides_law.proofs.Regained.{get_other}
-use Rattle.pp_decides_law.proofs.Turned.{left_is}
+use Rattle.pp_turns_law.proofs.Changed.{get_set}
+use Rattle.pp_turns_law.proofs.Refused.{left_stands}
+use Rattle.pp_turns_law.proofs.Regained.{get_other}
+use Rattle.pp_turns_law.proofs.Turned.{left_is}
 use Rattle.pp_deciding_law.proofs.Keeps.{set_length}
 use Rattle.pp_flow.specs.Changes.{Exchanges, changed, entry_of}
 use Rattle.pp_flow.specs.Entries.{is_number, nobodys}
@@ -30,7 +30,7 @@ use Rattle.pp_state.specs.Passing.{may_answer}
 use Rattle.pp_state.specs.Places.{IsChangedIn}
 use Rattle.pp_state.specs.declared.state.State.{State as Turn}
 use Rattle.pp_steps.specs.Begins.{BeginsAnswer, BeginsAt, BeginsBy, BeginsDecided, BeginsFrom, BeginsKept, BeginsOf, BeginsPassed, BeginsReplies, BeginsReply, BeginsRow, HasBegunPassed, HasBegunShown, IsKeptBegun, IsPassBegun, Kept, after_shown, asked_by, kept_of, left_unanswered, may_be_shown, may_begin, shown_of, with_left, without_outrun, without_unanswered}
-use Rattle.pp_steps_law.proofs.Told.{Stands}
+use Rattle.pp_states_law.proofs.Told.{Stands}
 use Rattle.pp_world.specs.declared.note.Decision.{Decision}
 use Rattle.pp_world.specs.declared.note.Decision.TheVariants.{Refuse, Hit, Part, Head, NotModified, Unsatisfiable, Relay, Validate, Fetch, Pass}
 
@@ -86,7 +86,7 @@ all_left n [] all = tt
 all_left n (x ∷ xs) all = by (is_number n x) (all_left n xs all.1)
   where
     by : (b : Bool) → AreAskable (changed n nobodys xs) → AreAskable (cond b (nobodys x ∷ xs) (x ∷ changed n nobodys xs))
-    by true rest = (record { place = all.0.place; short = all.0.short; head = all.0.head }, all.1)
+    by true rest = (record { place = all.0.place; short = all.0.short }, all.1)
     by false rest = (all.0, rest)
 
 unanswered_can : (n : ℕ) (o : Option Entry) (f : Exchanges) → CanBeAsked f → CanBeAsked (left_unanswered n o f)

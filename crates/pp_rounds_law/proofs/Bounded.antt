@@ -21,7 +21,7 @@ use Rattle.pp_seats.specs.Courses.{lost_one}
 use Rattle.pp_seats.specs.declared.seat.Course.{Course}
 use Rattle.pp_state.specs.Ends.{Parts, charged_at, cleared_of, dropped_row, ended, given_up_row, is_unfilled_at, lost_attempt, may_ask_again, on_seat, seat_for, with_course}
 use Rattle.pp_state.specs.Keys.{key_of}
-use Rattle.pp_steps_law.proofs.Told.{there_before}
+use Rattle.pp_states_law.proofs.Told.{there_before}
 use Rattle.pp_take.specs.Unplaced.{asked_again_where}
 use Rattle.pp_rounds_law.specs.Bounds.{AsksLeaveBounded, EndsLeaveBounded, LossesLeaveBounded, RefusalsLeaveBounded, RowsLeaveBounded}
 

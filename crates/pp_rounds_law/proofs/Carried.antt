@@ -4,8 +4,8 @@ use Rattle.std.proofs.Common.{◌≡◌, refl, sym, subst, ap, ◌∙◌, ℕ, z
 use Rattle.std.specs.Prelude.{slice_get, slice_set}
 use Rattle.pp_cache.specs.Memory.{Memory, retired_at}
 use Rattle.pp_cache_law.proofs.Numbers.{is_same, some_is}
-use Rattle.pp_decides_law.proofs.Changed.{get_set}
-use Rattle.pp_decides_law.proofs.Regained.{get_other}
+use Rattle.pp_turns_law.proofs.Changed.{get_set}
+use Rattle.pp_turns_law.proofs.Regained.{get_other}
 use Rattle.pp_deciding_law.proofs.Keeps.{set_length}
 use Rattle.pp_flow.specs.Changes.{Exchanges, entry_of}
 use Rattle.pp_flow.specs.Errands.{attempts_in}
@@ -24,7 +24,7 @@ use Rattle.pp_seats.specs.declared.seat.Seat.{Seat}
 use Rattle.pp_state.specs.Ends.{Parts, charged_at, cleared_key, cleared_of, cleared_row, cut_short, decided_anew, dropped_row, ended, exchange_of, given_up_row, is_unfilled_at, left, left_at_decision, left_by, lost_attempt, on_seat, on_seat_where, seat_for, useless_if_refused, with_course}
 use Rattle.pp_cache.specs.Notes.{has_noted}
 use Rattle.pp_state.specs.Keys.{key_of}
-use Rattle.pp_steps_law.proofs.Told.{Stands, there_before}
+use Rattle.pp_states_law.proofs.Told.{Stands, there_before}
 
 -- ---- one client
 

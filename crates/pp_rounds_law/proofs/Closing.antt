@@ -7,8 +7,8 @@ use Rattle.pp_cache.specs.Memory.{Memory}
 use Rattle.pp_cache_law.proofs.Finds.{find_passes}
 use Rattle.pp_cache_law.proofs.Numbers.{is_same}
 use Rattle.pp_cache_law.proofs.PairLemmas.{count_first}
-use Rattle.pp_closings_law.specs.Log.{AreLinked}
-use Rattle.pp_closings_law.specs.Sides.{ShowsSides}
+use Rattle.pp_turns_law.specs.Log.{AreLinked}
+use Rattle.pp_turns_law.specs.Sides.{ShowsSides}
 use Rattle.pp_conf.specs.Conf.{Settings}
 use Rattle.pp_desk.specs.Closings.{peer_numbers}
 use Rattle.pp_desk.specs.Shutting.{all_over, closed_as, closings, over_clients, over_peers, seats_left, stays, without_all}
@@ -39,7 +39,7 @@ use Rattle.pp_seats.specs.declared.seat.Seat.{Seat}
 use Rattle.pp_state.specs.Ends.{Parts, is_over_at, numbers_of, parts}
 use Rattle.pp_state.specs.Numbers.{places}
 use Rattle.pp_state.specs.declared.state.State.{State as Turn}
-use Rattle.pp_steps_law.specs.Steps.{ShowsSteps}
+use Rattle.pp_states_law.specs.Steps.{ShowsSteps}
 use Rattle.pp_store.specs.Kept.{KeptMap}
 use Rattle.pp_turns_law.proofs.Looked.{all_awake}
 use Rattle.pp_turns_law.proofs.Wanted.{same_length}

@@ -3,7 +3,7 @@ use Rattle.std.proofs.Common.{◌≡◌, ◌≤◌, ◌+◌, refl, sym, subst, a
 use Rattle.std.specs.List.{All}
 use Rattle.std.specs.Prelude.{count_by, option_and_then, option_map, slice_get, vec_capacity}
 use Rattle.pp_cache_law.proofs.PairLemmas.{count_first}
-use Rattle.pp_closings_law.specs.Log.{AreLinked}
+use Rattle.pp_turns_law.specs.Log.{AreLinked}
 use Rattle.pp_conf.specs.Conf.{Settings}
 use Rattle.pp_deciding_law.proofs.Found.{first_keeps, found_due}
 use Rattle.pp_deciding_law.specs.Stands.{NoneIsNext, StandsBehind}

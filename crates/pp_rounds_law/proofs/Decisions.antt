@@ -1,9 +1,9 @@
 -- All decisions lead on, one behind the other.
 use Rattle.std.proofs.Common.{◌≡◌, refl, sym, subst, ap, ◌∙◌, ℕ, zero, suc, Bool, true, false, List, [], ◌∷◌, ◌++◌, append_assoc, append-nil, Option, Some, None, option_map}
 use Rattle.std.specs.Prelude.{option_and_then, slice_get, ⊤}
-use Rattle.pp_closings_law.specs.Sides.{MayClose}
-use Rattle.pp_decides_law.proofs.Sitting.{is_at}
-use Rattle.pp_decides_law.proofs.StandingOn.{find_at}
+use Rattle.pp_turns_law.specs.Sides.{MayClose}
+use Rattle.pp_turns_law.proofs.Sitting.{is_at}
+use Rattle.pp_turns_law.proofs.StandingOn.{find_at}
 use Rattle.pp_deciding_law.proofs.Behind.{stand}
 use Rattle.pp_deciding_law.proofs.CutBehind.{cut_stand}
 use Rattle.pp_deciding_law.proofs.Cuts.{cuts_lead}

@@ -2,11 +2,11 @@
 use Rattle.std.proofs.Common.{◌≡◌, ◌≤◌, ◌+◌, refl, sym, subst, ap, ◌∙◌, ℕ, Bool, true, false, ◌||◌, length, List, [], ◌∷◌, ◌++◌, Option, Some, None, arith}
 use Rattle.std.specs.List.{list_any}
 use Rattle.std.specs.Prelude.{count_by}
-use Rattle.pp_closings_law.proofs.Over.{over_conns, over_with}
-use Rattle.pp_closings_law.proofs.Standing.{nowhere}
-use Rattle.pp_decides_law.proofs.Sitting.{is_at, shown_at}
-use Rattle.pp_decides_law.specs.Decides.{IsAtPlace}
-use Rattle.pp_decides_law.specs.Fills.{HasRoomForAll, MayAllFill}
+use Rattle.pp_turns_law.proofs.Over.{over_conns, over_with}
+use Rattle.pp_turns_law.proofs.StandsIn.{nowhere}
+use Rattle.pp_turns_law.proofs.Sitting.{is_at, shown_at}
+use Rattle.pp_turns_law.specs.Decides.{IsAtPlace}
+use Rattle.pp_turns_law.specs.Fills.{HasRoomForAll, MayAllFill}
 use Rattle.pp_deciding_law.proofs.Disk.{in_place}
 use Rattle.pp_deciding_law.proofs.Stays.{AreSourced}
 use Rattle.pp_desk.specs.Closings.{Sides}
@@ -44,10 +44,10 @@ use Rattle.pp_state.specs.declared.state.State.{State as Turn}
 use Rattle.pp_states_law.proofs.Framed.{states}
 use Rattle.pp_states_law.proofs.Lines.{all_found}
 use Rattle.pp_states_law.specs.Exchanges.{StandsNowhere}
-use Rattle.pp_steps_law.proofs.Charged.{losses, lost_given}
-use Rattle.pp_steps_law.proofs.Paid.{Stays as StaysThere, charge_stays}
-use Rattle.pp_steps_law.specs.Charges.{GoesOn, IsFor}
-use Rattle.pp_steps_law.specs.Steps.{ShowsSteps, whole}
+use Rattle.pp_states_law.proofs.Charged.{losses, lost_given}
+use Rattle.pp_states_law.proofs.Paid.{Stays as StaysThere, charge_stays}
+use Rattle.pp_states_law.specs.Charges.{GoesOn, IsFor}
+use Rattle.pp_states_law.specs.Steps.{ShowsSteps, whole}
 use Rattle.pp_take.specs.Filling.{filled}
 use Rattle.pp_turns_law.proofs.Wanted.{same_length}
 use Rattle.pp_turns_law.specs.Firsts.{AreAwake}

@@ -6,10 +6,10 @@ use Rattle.pp_cache.specs.Bounds.{IsBounded}
 use Rattle.pp_cache.specs.Memory.{Memory}
 use Rattle.pp_cache_law.proofs.Numbers.{same_test, some_is}
 use Rattle.pp_client.specs.Replies.{Reply as Said}
-use Rattle.pp_decides_law.proofs.AtOnce.{begun_is}
-use Rattle.pp_decides_law.proofs.StandingOn.{there_by}
-use Rattle.pp_decides_law.proofs.Walk.{begins as replies_begin}
-use Rattle.pp_decides_law.specs.Begins.{AllMayBegin, IsDecidedAs}
+use Rattle.pp_turns_law.proofs.AtOnce.{begun_is}
+use Rattle.pp_turns_law.proofs.StandingOn.{there_by}
+use Rattle.pp_turns_law.proofs.Walk.{begins as replies_begin}
+use Rattle.pp_turns_law.specs.Begins.{AllMayBegin, IsDecidedAs}
 use Rattle.pp_deciding_law.proofs.Disk.{in_place}
 use Rattle.pp_deciding_law.proofs.Found.{kept_on}
 use Rattle.pp_desk.specs.declared.desk.Desk.{Desk}
@@ -50,7 +50,7 @@ use Rattle.pp_seats_law.specs.Replies.{ShowsStage, source_number}
 use Rattle.pp_seats_law.specs.Dues.{AreApart}
 use Rattle.pp_state.specs.Ends.{source_of}
 use Rattle.pp_state.specs.declared.state.State.{State as Turn}
-use Rattle.pp_steps_law.specs.Told.{IsTold}
+use Rattle.pp_states_law.specs.Told.{IsTold}
 use Rattle.pp_store.specs.Kept.{KeptMap}
 use Rattle.pp_turns_law.proofs.First.{IsShownAt, seat_shown}
 use Rattle.pp_turns_law.proofs.Reading.{same_id}

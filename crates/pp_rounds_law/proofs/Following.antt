@@ -3,15 +3,15 @@ use Rattle.std.proofs.Common.{◌≡◌, ◌≤◌, refl, sym, subst, ap, ◌∙
 use Rattle.std.specs.Prelude.{is_some, vec_capacity}
 use Rattle.pp_cache.specs.Bounds.{IsBounded}
 use Rattle.pp_cache.specs.Memory.{Memory}
-use Rattle.pp_closings_law.proofs.AllSeen.{all_drop}
-use Rattle.pp_closings_law.specs.Log.{AreLinked}
-use Rattle.pp_closings_law.specs.Sides.{MayClose, ShowsSides}
-use Rattle.pp_closings_law.specs.Unseen.{Tells}
-use Rattle.pp_decides_law.proofs.All.{fills_all}
-use Rattle.pp_decides_law.proofs.GivenUp.{gives_up, waiting_in_order}
-use Rattle.pp_decides_law.proofs.Sitting.{is_at, shown_at}
-use Rattle.pp_decides_law.specs.Decides.{IsAtPlace}
-use Rattle.pp_decides_law.specs.Fills.{HasRoomForAll, IsFilled, MayAllFill}
+use Rattle.pp_turns_law.proofs.AllSeen.{all_drop}
+use Rattle.pp_turns_law.specs.Log.{AreLinked}
+use Rattle.pp_turns_law.specs.Sides.{MayClose, ShowsSides}
+use Rattle.pp_turns_law.specs.Unread.{Tells}
+use Rattle.pp_turns_law.proofs.All.{fills_all}
+use Rattle.pp_turns_law.proofs.GivenUp.{gives_up, waiting_in_order}
+use Rattle.pp_turns_law.proofs.Sitting.{is_at, shown_at}
+use Rattle.pp_turns_law.specs.Decides.{IsAtPlace}
+use Rattle.pp_turns_law.specs.Fills.{HasRoomForAll, IsFilled, MayAllFill}
 use Rattle.pp_deciding_law.proofs.Framed.{steps_in}
 use Rattle.pp_desk.specs.Closings.{Sides, peer_numbers, sides, with_parts}
 use Rattle.pp_desk.specs.Origins.{without_unseen}
@@ -40,7 +40,7 @@ use Rattle.pp_seats_law.specs.Seats.{ShowsSeat}
 use Rattle.pp_state.specs.Ends.{AreInOrder, Parts, numbers_of, parts}
 use Rattle.pp_state.specs.declared.state.State.{State as Turn}
 use Rattle.pp_states_law.specs.Decisions.{AreApart}
-use Rattle.pp_steps_law.specs.Steps.{ShowsSteps}
+use Rattle.pp_states_law.specs.Steps.{ShowsSteps}
 use Rattle.pp_store.specs.Kept.{KeptMap}
 use Rattle.pp_take.specs.GivingUp.{all_given_up}
 use Rattle.pp_turns_law.proofs.Wanted.{same_length}

@@ -4,8 +4,8 @@ use Rattle.std.specs.Prelude.{IfSome, slice_get}
 use Rattle.pp_cache.specs.Memory.{Memory}
 use Rattle.pp_cache_law.specs.Tables.{ShowsTable}
 use Rattle.pp_client.specs.Replies.{Reply as Said}
-use Rattle.pp_decides_law.proofs.Filled.{closed_in_turn}
-use Rattle.pp_decides_law.proofs.FollowingOn.{has_source}
+use Rattle.pp_turns_law.proofs.Filled.{closed_in_turn}
+use Rattle.pp_turns_law.proofs.FollowingOn.{has_source}
 use Rattle.pp_law.specs.Lists.{Bytes}
 use Rattle.pp_law.specs.State.{State, Client}
 use Rattle.pp_objects.specs.Instances.{is_there}
@@ -18,7 +18,7 @@ use Rattle.pp_seats.specs.declared.seat.Stage.{Stage}
 use Rattle.pp_seats_law.specs.Clients.{AreShown}
 use Rattle.pp_seats_law.specs.Seats.{ShowsSeat}
 use Rattle.pp_state.specs.Ends.{Parts}
-use Rattle.pp_turns_law.proofs.Following.{going_seat, none_some}
+use Rattle.pp_turns_law.proofs.Follows.{going_seat, none_some}
 use Rattle.pp_turns_law.specs.Turns.{IsFollowing}
 use Rattle.pp_turns_law.specs.Unseen.{AreFollowing}
 use Rattle.pp_rounds_law.proofs.Carried.{Carries, WasAt}

@@ -7,7 +7,7 @@ use Rattle.std.specs.Prelude.{count_by}
 use Rattle.pp_cache_law.proofs.Finds.{find_kept}
 use Rattle.pp_cache_law.proofs.Numbers.{some_is}
 use Rattle.pp_cache_law.proofs.PairLemmas.{count_first}
-use Rattle.pp_closings_law.specs.Log.{AreLinked}
+use Rattle.pp_turns_law.specs.Log.{AreLinked}
 use Rattle.pp_desk.specs.Closings.{peer_numbers}
 use Rattle.pp_desk.specs.Shutting.{over_peers, without_all}
 use Rattle.pp_flow_law.proofs.Entries.{other_way, same_number}

@@ -3,8 +3,8 @@ use Rattle.std.proofs.Common.{◌≡◌, ◌≤◌, refl, sym, subst, ap, ap₂,
 use Rattle.std.specs.List.{cons_option, filter_map, list_any}
 use Rattle.std.specs.Prelude.{slice_get}
 use Rattle.pp_cache_law.proofs.Numbers.{some_is}
-use Rattle.pp_closings_law.specs.Log.{AreLinked}
-use Rattle.pp_decides_law.proofs.Sitting.{is_at}
+use Rattle.pp_turns_law.specs.Log.{AreLinked}
+use Rattle.pp_turns_law.proofs.Sitting.{is_at}
 use Rattle.pp_desk.specs.Closings.{peer_numbers}
 use Rattle.pp_desk.specs.Shutting.{over_at, over_client, over_clients, over_peers, seats_left, stays, without_all}
 use Rattle.pp_law.specs.Lists.{has_number}

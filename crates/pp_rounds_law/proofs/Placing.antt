@@ -27,7 +27,7 @@ use Rattle.pp_proxy.specs.Rounds.{Places}
 use Rattle.pp_rounds_law.specs.Decisions.{Passes}
 use Rattle.pp_state.specs.Ends.{numbers_of, parts}
 use Rattle.pp_state.specs.declared.state.State.{State as Turn}
-use Rattle.pp_steps_law.specs.Steps.{ShowsSteps}
+use Rattle.pp_states_law.specs.Steps.{ShowsSteps}
 use Rattle.pp_store.specs.Kept.{KeptMap}
 use Rattle.pp_turns_law.specs.Turns.{ShowsTurn}
 use Rattle.pp_world.specs.Log.{Log}

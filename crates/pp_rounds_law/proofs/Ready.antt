@@ -4,7 +4,7 @@ use Rattle.std.specs.Prelude.{slice_get}
 use Rattle.pp_cache.specs.Memory.{Memory}
 use Rattle.pp_cache_law.proofs.Numbers.{some_is}
 use Rattle.pp_cache_law.specs.Tables.{ShowsTable}
-use Rattle.pp_decides_law.proofs.StandingOn.{there_by}
+use Rattle.pp_turns_law.proofs.StandingOn.{there_by}
 use Rattle.pp_deciding_law.proofs.Disk.{in_place}
 use Rattle.pp_deciding_law.proofs.Stays.{AreSourced}
 use Rattle.pp_flow_law.specs.Tables.{AreGiven}
@@ -30,7 +30,7 @@ use Rattle.pp_seats_law.specs.Replies.{ShowsBrought, ShowsFate, ShowsStage, sour
 use Rattle.pp_seats_law.specs.Seats.{ShowsOpen}
 use Rattle.pp_state.specs.Ends.{parts}
 use Rattle.pp_state.specs.declared.state.State.{State as Turn}
-use Rattle.pp_steps_law.specs.Told.{IsTold}
+use Rattle.pp_states_law.specs.Told.{IsTold}
 use Rattle.pp_turns_law.proofs.First.{IsShownAt, seat_shown}
 use Rattle.pp_turns_law.specs.Firsts.{AreAwake, IsAsleep}
 use Rattle.pp_turns_law.specs.Rows.{AreReady, IsReady}

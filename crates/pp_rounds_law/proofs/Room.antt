@@ -108,6 +108,7 @@ turn_connecting s at h =
       bodied = f.bodied;
       once = f.once;
       made = f.made;
+      short = f.short;
     })
 
 pub once_each : (terms : List Term) (before : Log) (s : State) → Obeys terms s before → s.phase ≡ Deciding → AreGiven 0 (without_useless s).next_exchange (map (λ (e : Exchange). e.number) (without_useless s).exchanges) → (n : ℕ) → count_by (is_of n) (without_useless s).exchanges ≤ 1

@@ -6,7 +6,7 @@ use Rattle.std.specs.Prelude.{IfOk, count_by, is_some}
 use Rattle.std.specs.Result.{result_unwrap_or}
 use Rattle.pp_cache_law.proofs.Numbers.{is_same}
 use Rattle.pp_cache_law.proofs.PairLemmas.{count_first, count_joined}
-use Rattle.pp_closings_law.specs.Log.{AreLinked}
+use Rattle.pp_turns_law.specs.Log.{AreLinked}
 use Rattle.pp_desk.specs.Closings.{Sides, peer_numbers}
 use Rattle.pp_flow.specs.Changes.{Exchanges, entry_of}
 use Rattle.pp_flow.specs.Entries.{is_number as is_exchange}

@@ -3,7 +3,7 @@ use Rattle.std.proofs.Common.{◌≡◌, ◌≤◌, refl, sym, subst, ap, ◌∙
 use Rattle.std.specs.List.{All}
 use Rattle.std.specs.Prelude.{vec_capacity}
 use Rattle.pp_cache.specs.Bounds.{IsBounded}
-use Rattle.pp_closings_law.specs.Log.{AreLinked}
+use Rattle.pp_turns_law.specs.Log.{AreLinked}
 use Rattle.pp_conf.specs.Conf.{Settings}
 use Rattle.pp_deciding_law.specs.Stands.{StandsToDecide}
 use Rattle.pp_desk.specs.Closings.{peer_numbers}

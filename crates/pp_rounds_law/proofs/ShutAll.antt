@@ -1,8 +1,8 @@
 -- All clients are shut, and then all connections to origins are dropped: each may be, and behind the last the log may end.
 use Rattle.std.proofs.Common.{◌≡◌, refl, sym, subst, ap, ap₂, ◌∙◌, ℕ, Bool, true, false, not, ◌||◌, ◌&&◌, ◌==◌, List, [], ◌∷◌, map, is_some, Option, Some, None, option_and_then}
 use Rattle.std.specs.List.{list_any}
-use Rattle.pp_closings_law.proofs.Noted.{at_it, stays}
-use Rattle.pp_closings_law.specs.Log.{IsConnecting}
+use Rattle.pp_turns_law.proofs.AllDropped.{at_it, stays}
+use Rattle.pp_turns_law.specs.Log.{IsConnecting}
 use Rattle.pp_law.specs.After.{after, changed, dropped, out, shut}
 use Rattle.pp_law.specs.Closing.{close_client}
 use Rattle.pp_law.specs.Connections.{AllPlaced, Placement, conn, exchange, if_unplaced, is_conn, place_each, placing}

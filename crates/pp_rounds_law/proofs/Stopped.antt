@@ -1,6 +1,6 @@
 -- At Stop a turn decides, and closes all.
 use Rattle.std.proofs.Common.{◌≡◌, refl, sym, subst, ap, ◌∙◌, ℕ, zero, suc, Bool, true, false, length, List, [], ◌∷◌, ◌++◌, Option, Some, None}
-use Rattle.pp_closings_law.specs.Log.{AreLinked}
+use Rattle.pp_turns_law.specs.Log.{AreLinked}
 use Rattle.pp_deciding_law.proofs.Found.{first_keeps}
 use Rattle.pp_deciding_law.specs.Stands.{NoneIsNext, StandsBehind}
 use Rattle.pp_desk.specs.Closings.{peer_numbers}

@@ -1,6 +1,6 @@
 -- All that is decided in one go, one behind the other, leads where the law leads (RFC 2616, section 8.1; the order is ours).
 use Rattle.std.specs.Prelude.{◌≡◌, ℕ, Bool, true, false, List, ◌++◌, None}
-use Rattle.pp_closings_law.specs.Sides.{MayClose}
+use Rattle.pp_turns_law.specs.Sides.{MayClose}
 use Rattle.pp_deciding_law.specs.Cuts.{IsCutNext, behind_cut}
 use Rattle.pp_deciding_law.specs.Stands.{StandsBehind}
 use Rattle.pp_deciding_law.specs.Takes.{IsNext, RestsOn, behind_taken}

@@ -1,8 +1,8 @@
 -- Wherever the places of a round come to, each dial may be refused: an attempt is lost, and where its exchange is over, followers ask for
 -- what is missing (RFC 2616, section 8.1.4; RFC 7233, section 3.2).
 use Rattle.std.specs.Prelude.{◌≡◌, ◌≤◌, ◌+◌, ◌-◌, ◌^◌, ℕ, false, length, List, ◌++◌, Option, Some, None}
-use Rattle.pp_decides_law.specs.Decides.{IsAtPlace}
-use Rattle.pp_decides_law.specs.Fills.{MayWant}
+use Rattle.pp_turns_law.specs.Decides.{IsAtPlace}
+use Rattle.pp_turns_law.specs.Fills.{MayWant}
 use Rattle.pp_flow.specs.Changes.{entry_of}
 use Rattle.pp_flow.specs.declared.entry.Entry.{Entry}
 use Rattle.pp_law.specs.Connections.{WaitsDial, client, end_exchange, placing}

@@ -3,7 +3,7 @@
 use Rattle.std.specs.Prelude.{◌≡◌, ◌≤◌, ◌&&◌, ℕ, true, false, not, is_some, length, slice_get, List, [], Some, None}
 use Rattle.std.specs.List.{list_any}
 use Rattle.pp_cache.specs.Bounds.{IsBounded}
-use Rattle.pp_decides_law.specs.Begins.{MayShow, is_kept_by}
+use Rattle.pp_turns_law.specs.Begins.{MayShow, is_kept_by}
 use Rattle.pp_deciding_law.specs.Stands.{StandsToDecide}
 use Rattle.pp_desk.specs.declared.desk.Desk.{Desk}
 use Rattle.pp_flow_law.specs.Tables.{none_leaves}
@@ -28,7 +28,7 @@ use Rattle.pp_turns_law.specs.Rows.{AllAreKept, AreReady}
 use Rattle.pp_turns_law.specs.Turns.{ShowsTurn}
 use Rattle.pp_world.specs.Log.{Log}
 
--- ---- what a reply that begins rests on, beside what stands (Begins.`MayBegin` of `pp_decides_law`)
+-- ---- what a reply that begins rests on, beside what stands (Begins.`MayBegin` of `pp_turns_law`)
 
 -- its reply is by the version of its source, from the first offset of what was decided to the last, and may be shown; and memory was
 -- refused for no row that its exchange brought: as `IsDecidedAs` has it, but for what tells rows apart

@@ -4,7 +4,7 @@
 use Rattle.std.specs.Prelude.{◌≡◌, ℕ, Bool, true, false, List, [], ◌++◌, length, None}
 use Rattle.std.specs.List.{list_any}
 use Rattle.pp_cache.specs.Bounds.{IsBounded}
-use Rattle.pp_closings_law.specs.Log.{AreLinked}
+use Rattle.pp_turns_law.specs.Log.{AreLinked}
 use Rattle.pp_deciding_law.specs.Stands.{StandsBehind}
 use Rattle.pp_desk.specs.Closings.{peer_numbers}
 use Rattle.pp_law.specs.Closing.{is_over}

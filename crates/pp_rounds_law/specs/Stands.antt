@@ -2,7 +2,7 @@
 use Rattle.std.specs.Prelude.{◌≡◌, ◌≤◌, ◌+◌, ℕ, false, length, vec_capacity, None}
 use Rattle.std.specs.List.{All}
 use Rattle.pp_cache_law.specs.Kept.{AreAsKept}
-use Rattle.pp_closings_law.specs.Log.{AreLinked}
+use Rattle.pp_turns_law.specs.Log.{AreLinked}
 use Rattle.pp_deciding_law.specs.Stands.{IsDeciding}
 use Rattle.pp_desk.specs.Closings.{peer_numbers}
 use Rattle.pp_flow_law.specs.Tables.{none_leaves}

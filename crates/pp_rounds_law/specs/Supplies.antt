@@ -1,10 +1,10 @@
 -- What a round rests on beside what stands: whatever holds from one step to the next, and supplies it. All of it is ours.
 use Rattle.std.specs.Prelude.{◌≡◌, ◌≤◌, ◌+◌, ◌-◌, ◌^◌, ℕ, true, false, length, List, ◌++◌, Some, None}
 use Rattle.std.specs.List.{list_any}
-use Rattle.pp_closings_law.specs.Sides.{MayClose}
-use Rattle.pp_closings_law.specs.Unseen.{IsCountedOn}
-use Rattle.pp_decides_law.specs.Decides.{IsAtPlace}
-use Rattle.pp_decides_law.specs.Fills.{MayWant}
+use Rattle.pp_turns_law.specs.Sides.{MayClose}
+use Rattle.pp_turns_law.specs.Unread.{IsCountedOn}
+use Rattle.pp_turns_law.specs.Decides.{IsAtPlace}
+use Rattle.pp_turns_law.specs.Fills.{MayWant}
 use Rattle.pp_desk.specs.Origins.{without_unseen}
 use Rattle.pp_desk.specs.declared.desk.Desk.{Desk}
 use Rattle.pp_law.specs.Closing.{is_over}

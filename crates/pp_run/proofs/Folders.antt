@@ -1,6 +1,5 @@
 -- What a run comes to, from its folder on.
-use Rattle.std.proofs.Common.{◌≡◌, ◌≤◌, ◌∙◌, ap, refl, sym, subst, ℕ, Bool, List, [], ◌∷◌, ◌++◌, Option, Some, None, true, false, append_assoc, inl, inr}
-use Rattle.std.proofs.lemmas.List.{append-nil}
+use Rattle.std.proofs.Common.{◌≤◌, ◌∙◌, ap, refl, sym, subst, ℕ, Bool, List, [], ◌∷◌, ◌++◌, Option, Some, true, false, append_assoc, inl, inr}
 use Rattle.std.proofs.lemmas.List.Sums.{fold-append}
 use Rattle.pp_world.specs.declared.happening.Happening.TheVariants.{Configured, Listed, Listens, Printed, Rooted}
 use Rattle.pp_world.specs.Disk.{image_after, image_of}
@@ -17,7 +16,7 @@ use Rattle.pp_store.specs.Held.{Holds}
 use Rattle.pp_store.specs.Kept.{KeptMap}
 use Rattle.pp_store.proofs.Backing.{outlast-others}
 use Rattle.pp_run.specs.Lines.{no_disk_line, no_listener_line, no_memory_line}
-use Rattle.pp_run.specs.Exits.{HasNoDisk, IsOpening, ListensAndGoes, ListensAs, MayNot, OpensAnd, OpensOn, WantsMemory, served_as}
+use Rattle.pp_run.specs.Exits.{HasNoDisk, ListensAndGoes, ListensAs, MayNot, OpensAnd, OpensOn, WantsMemory, served_as}
 use Rattle.pp_run.specs.Serving.{GoesUpTo}
 use Rattle.pp_run.specs.declared.ending.Exit.{Exit}
 use Rattle.pp_run.specs.declared.ending.Exit.TheVariants.{Served, ServedAstray, Usage, NoMemory, NoDisk, NoListener, NoConfig}

@@ -1,5 +1,5 @@
 -- The life behind a crash has changed nothing yet.
-use Rattle.std.proofs.Common.{◌≡◌, ◌<◌, ℕ, Option, Some, None}
+use Rattle.std.proofs.Common.{◌≡◌, ℕ, Option, Some, None}
 use Rattle.pp_world.specs.Files.{Files}
 use Rattle.pp_world.specs.Log.{Log, Told}
 use Rattle.pp_memworld.specs.Crash.{Crashes}

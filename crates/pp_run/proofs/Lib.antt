@@ -1,3 +1,4 @@
+pub mod Breaking
 pub mod Folders
 pub mod Fresh
 pub mod Judging

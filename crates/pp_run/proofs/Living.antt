@@ -1,5 +1,5 @@
 -- Of which exits a life is told.
-use Rattle.std.proofs.Common.{◌≡◌, ◌∙◌, ◌&&◌, ap, refl, subst, sym, Bool, true, false, List, [], ◌∷◌, ℕ, Option, Some, None}
+use Rattle.std.proofs.Common.{◌≡◌, ◌∙◌, ◌&&◌, refl, subst, sym, Bool, true, false, List, [], ◌∷◌, ℕ, Option, Some, None}
 use Rattle.pp_conf.specs.declared.fault.ConfFault.{ConfFault}
 use Rattle.pp_conf.specs.declared.fault.ConfFault.TheVariants.{Usage, TooLong, BadLine, BadValue, OutOfMemory}
 use Rattle.pp_conf.specs.Words.{file_of}

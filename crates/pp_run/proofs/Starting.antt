@@ -4,7 +4,7 @@ use Rattle.pp_world.specs.declared.happening.Happening.TheVariants.{Configured, 
 use Rattle.pp_world.specs.Log.{Log, AppendsAll, Rises}
 use Rattle.pp_world.proofs.CallLemmas.{appends_then, rises_earlier, rises_later}
 use Rattle.pp_links.specs.Quiet.{GrowsBy}
-use Rattle.pp_run.specs.Lines.{unread_line}
+use Rattle.pp_run.specs.Lines.{unread_line, usage_line}
 use Rattle.pp_conf.specs.Conf.{Settings}
 use Rattle.pp_conf.specs.Words.{Serves, ShowsDemo, file_of, has_reading, reading_of}
 use Rattle.pp_run.specs.Exits.{EndsAs, IsUnread, JudgesWords, OpensOn, ShowsAs, StartsAs, asked_for}
@@ -82,6 +82,22 @@ ends_later {old} {mid} new words file text exit before between now reads named f
     let whole : StartsAs (asked_for (file_of words) (Some text)) words (Some text) exit old new before now
     = starts_later new (asked_for (file_of words) (Some text)) words (Some text) exit before between now asked more start in
     ends_by old new words text exit before now reads (sym (ap is_some named)) judges whole
+
+-- the words name none
+pub ends_unnamed : (old new : Option Log) (words : List (List ℕ)) (exit : Exit) (before now : ℕ) → file_of words ≡ None → StartsAs [] words None exit old new before now → EndsAs words exit old new before now
+ends_unnamed old new words exit before now none start = by exit (subst (λ (f : Option (List ℕ)). StartsAs (asked_for f None) words None exit old new before now) (sym none) start)
+  where
+    named : false ≡ is_some (file_of words)
+    named = sym (ap is_some none)
+
+    by : (e : Exit) → StartsAs (asked_for (file_of words) None) words None e old new before now → EndsAs words e old new before now
+    by Served there = (None, named, there)
+    by ServedAstray there = (None, named, there)
+    by NoListener there = (None, named, there)
+    by NoConfig there = inr (None, named, there)
+    by NoMemory there = inr (None, named, there)
+    by NoDisk there = (None, named, there)
+    by Usage there = subst (λ (f : Option (List ℕ)). AppendsAll old new (λ l. asked_for f None ++ Printed usage_line ∷ [])) none there
 
 -- FILE was asked for and could not be read
 pub unread : {old mid new : Option Log} (words : List (List ℕ)) (file : List ℕ) (before between now : ℕ) → file_of words ≡ Some file

@@ -1,4 +1,5 @@
 pub mod Lines
 pub mod Lives
 pub mod Serving
+pub mod Breaks
 pub mod Exits

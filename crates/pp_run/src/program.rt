@@ -7,6 +7,7 @@ ghost use Rattle.pp_recover.specs.Opening.{IsFresh};
 ghost use Rattle.pp_conf.specs.Shown.{shown_text};
 ghost use Rattle.pp_conf.specs.Words.{file_of, has_reading};
 ghost use Rattle.pp_demo.specs.Summary.{summary_text};
+ghost use Rattle.pp_run.specs.Breaks.{BreaksAs, BreaksWith};
 ghost use Rattle.pp_run.specs.Lines.{fault_line};
 ghost use Rattle.pp_run.specs.Exits.{exit_of, EndsAs, JudgesWords, ShowsAs, StartsAs};
 ghost use Rattle.pp_run.specs.Lives.{HasRead, HasServed, ServingBy, outside};
@@ -29,6 +30,7 @@ pub fn run<W: World>(alloc: Global, words: &[String], world: &mut W) -> Exit
     ensures words { JudgesWords (map string_bytes words.now) result }
     ensures told { EndsAs (map string_bytes words.now) result (W.log world.old) (W.log world.new) (W.faults world.old) (W.faults world.new) }
     ensures served { ServingBy (map string_bytes words.now) result (HasServed (map string_bytes words.now) result (outside (W.log world.old) (W.top world.old) (W.faults world.old)) (outside (W.log world.new) (W.top world.new) (W.faults world.new))) }
+    ensures breaks { BreaksAs (map string_bytes words.now) result (outside (W.log world.old) (W.top world.old) (W.faults world.old)) (outside (W.log world.new) (W.top world.new) (W.faults world.new)) }
 {
     match config_name(alloc, words) {
         Ok(None) => start(alloc, words, None, world),
@@ -45,6 +47,7 @@ fn read_file<W: World>(alloc: Global, words: &[String], name: &str, world: &mut 
     ensures words { JudgesWords (map string_bytes words.now) result }
     ensures told { EndsAs (map string_bytes words.now) result (W.log world.old) (W.log world.new) (W.faults world.old) (W.faults world.new) }
     ensures served { ServingBy (map string_bytes words.now) result (HasServed (map string_bytes words.now) result (outside (W.log world.old) (W.top world.old) (W.faults world.old)) (outside (W.log world.new) (W.top world.new) (W.faults world.new))) }
+    ensures breaks { BreaksAs (map string_bytes words.now) result (outside (W.log world.old) (W.top world.old) (W.faults world.old)) (outside (W.log world.new) (W.top world.new) (W.faults world.new)) }
 {
     match world.config(alloc, name) {
         Ok(text) => start(alloc, words, Some(text.as_slice()), world),
@@ -65,6 +68,7 @@ fn start<W: World>(alloc: Global, words: &[String], text: Option<&[u8]>, world: 
     ensures words { JudgesWords (map string_bytes words.now) result }
     ensures told { StartsAs [] (map string_bytes words.now) (shown_text text.entry) result (W.log world.old) (W.log world.new) (W.faults world.old) (W.faults world.new) }
     ensures read { ServingBy (map string_bytes words.now) result (HasRead (map string_bytes words.now) (shown_text text.entry) result (outside (W.log world.old) (W.top world.old) (W.faults world.old)) (outside (W.log world.new) (W.top world.new) (W.faults world.new))) }
+    ensures breaks { BreaksWith (map string_bytes words.now) (shown_text text.entry) result (outside (W.log world.old) (W.top world.old) (W.faults world.old)) (outside (W.log world.new) (W.top world.new) (W.faults world.new)) }
 {
     match Conf::read(alloc, words, text) {
         Ok(Command::Serve(conf)) => open(alloc, &conf, world),

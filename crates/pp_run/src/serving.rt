@@ -4,6 +4,7 @@ ghost use Rattle.pp_conf.specs.Logs.{log_place, shown_place};
 ghost use Rattle.pp_links.specs.Quiet.{GrowsBy};
 ghost use Rattle.pp_desk.specs.Anything.{anything};
 ghost use Rattle.pp_recover.specs.Opening.{IsFresh};
+ghost use Rattle.pp_run.specs.Breaks.{BreaksOff, ShutsAs};
 ghost use Rattle.pp_run.specs.Exits.{ListensAs, OpensOn, served_as};
 ghost use Rattle.pp_run.specs.Lives.{HasLived, ListensAndTurns, Serving, outside};
 ghost use Rattle.pp_proxy.specs.Awaiting.{standing};
@@ -27,6 +28,7 @@ pub(crate) fn open<W: World>(alloc: Global, conf: &Conf, world: &mut W) -> Exit
     requires { Told (W.log world.old) (λ l. (files : Files) × IsFresh files l) }
     ensures told { OpensOn [] conf.now.root conf.now.port conf.now.max_turns result (W.log world.old) (W.log world.new) (W.faults world.old) (W.faults world.new) }
     ensures lived { Serving result (HasLived conf.now result (outside (W.log world.old) (W.top world.old) (W.faults world.old)) (outside (W.log world.new) (W.top world.new) (W.faults world.new))) }
+    ensures breaks { BreaksOff conf.now.root conf.now.port result (outside (W.log world.old) (W.top world.old) (W.faults world.old)) (outside (W.log world.new) (W.top world.new) (W.faults world.new)) }
 {
     match Proxy::open(alloc, conf) {
         Ok(mut proxy) => open_folder(alloc, &mut proxy, conf, world),
@@ -43,6 +45,7 @@ fn open_folder<W: World>(alloc: Global, proxy: &mut Proxy, conf: &Conf, world: &
     requires fresh { Told (W.log world.old) (λ l. (files : Files) × IsFresh files l) }
     ensures told { OpensOn [] conf.now.root conf.now.port conf.now.max_turns result (W.log world.old) (W.log world.new) (W.faults world.old) (W.faults world.new) }
     ensures lived { Serving result (HasLived conf.now result (outside (W.log world.old) (W.top world.old) (W.faults world.old)) (outside (W.log world.new) (W.top world.new) (W.faults world.new))) }
+    ensures breaks { BreaksOff conf.now.root conf.now.port result (outside (W.log world.old) (W.top world.old) (W.faults world.old)) (outside (W.log world.new) (W.top world.new) (W.faults world.new)) }
 {
     match Shelf::open(alloc, world, conf.root.as_slice()) {
         Ok(mut shelf) => listen(proxy, &mut shelf, &door_of(conf), conf.max_turns, world),
@@ -84,6 +87,7 @@ fn listen<W: World>(
     requires holds { Told (W.log world.old) (Holds anything shelf.old) }
     ensures told { ListensAs door.now.port most_turns result (W.log world.old) (W.log world.new) (W.faults world.old) (W.faults world.new) }
     ensures turns { Serving result (ListensAndTurns door.now.port most_turns result shelf.old shelf.new proxy.old proxy.new (outside (W.log world.old) (W.top world.old) (W.faults world.old)) (outside (W.log world.new) (W.top world.new) (W.faults world.new))) }
+    ensures shuts { ShutsAs door.now.port result (outside (W.log world.old) (W.top world.old) (W.faults world.old)) (outside (W.log world.new) (W.top world.new) (W.faults world.new)) }
 {
     match world.listen(door) {
         Ok(()) => {

@@ -9,12 +9,12 @@ use Rattle.pp_flow.specs.declared.errand.Kind.TheVariants.{Whole, Range, Hole, C
 use Rattle.pp_fresh.specs.Guessing.{allows_guess}
 use Rattle.pp_objects.specs.declared.id.ObjectId.{ObjectId}
 use Rattle.pp_pipe.specs.Authentication.{binds_connection}
-use Rattle.pp_plan.specs.Requests.{is_head}
 use Rattle.pp_target.specs.Key.{key_in, text_of}
 use Rattle.pp_valid.specs.Codings.{accepts_only_identity}
 use Rattle.pp_law.specs.Connections.{attempts_of, is_outstanding}
 use Rattle.pp_law.specs.Requests.{goes_alone, is_asked_once, is_safe}
-use Rattle.pp_law.specs.Stages.{bound_of, is_headed, is_through}
+use Rattle.pp_law.specs.Responses.{asks_head}
+use Rattle.pp_law.specs.Stages.{bound_of, is_headed}
 use Rattle.pp_law.specs.State.{Body, Pending, Joining, Relaying, Dropping, Bound, Exchange}
 use Rattle.pp_seats_law.specs.Fates.{aim_of}
 
@@ -60,7 +60,7 @@ pub record ShowsExchange (numbers : ℕ → ℕ) (x : Entry) (e : Exchange) : Ty
   pub is_ranged : is_ranged_in x.errand.kind ≡ e.is_ranged
   pub is_moved : x.errand.is_moved ≡ e.is_moved
   pub is_asked_once : x.errand.is_asked_once ≡ is_asked_once e.head
-  pub asks_head : is_through e ≡ true → x.errand.asks_head ≡ is_head e.head.method
+  pub asks_head : x.errand.asks_head ≡ asks_head e
   pub is_safe : x.errand.is_safe ≡ is_safe e.head
   pub binds : x.errand.binds_connection ≡ binds_connection e.head.fields
   pub identity : x.errand.accepts_only_identity ≡ accepts_only_identity e.head.fields

@@ -72,6 +72,7 @@ conn_again s t p k same shows = record {
   has_brought = shows.has_brought;
   may_pipeline = shows.may_pipeline;
   is_closing = shows.is_closing;
+  stays = shows.stays;
   mark = shows.mark;
   has_waited = shows.has_waited;
   pipe = λ goes. pipe_again s t p k (same goes) (shows.pipe goes);

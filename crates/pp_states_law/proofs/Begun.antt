@@ -136,6 +136,7 @@ conn_marked s t p k now same shows = record {
   has_brought = those.has_brought;
   may_pipeline = those.may_pipeline;
   is_closing = those.is_closing;
+  stays = those.stays;
   mark = refl;
   has_waited = those.has_waited;
   pipe = λ going. as_it_was t p (marked_peer now p) k (marked_conn now k) refl refl refl refl refl (those.pipe going);

@@ -139,6 +139,7 @@ marks number name owed l p s shows n now peer few found =
           has_brought = those.has_brought;
           may_pipeline = those.may_pipeline;
           is_closing = those.is_closing;
+          stays = those.stays;
           mark = refl;
           has_waited = those.has_waited;
           pipe = λ going. as_it_was (on_conn n (marked_conn now) s) peer (record peer { mark = now }) k (marked_conn now k) refl refl refl refl refl (those.pipe going);
@@ -162,6 +163,7 @@ reached number name owed l p s shows n peer few found =
           has_brought = those.has_brought;
           may_pipeline = those.may_pipeline;
           is_closing = those.is_closing;
+          stays = those.stays;
           mark = those.mark;
           has_waited = those.has_waited;
           pipe = λ going. as_it_was t peer (record peer { is_reached = true }) k (record k { is_reached = true }) refl refl refl refl refl (those.pipe going);
@@ -188,6 +190,7 @@ closings number name owed l p s shows n peer k few found there = record {
           has_brought = these.has_brought;
           may_pipeline = λ going. absurd cc;
           is_closing = refl;
+          stays = λ going. absurd cc;
           mark = these.mark;
           has_waited = these.has_waited;
           pipe = λ going. absurd cc;

@@ -30,6 +30,7 @@ new_shown s n port now host = record {
   has_brought = refl;
   may_pipeline = λ goes. refl;
   is_closing = refl;
+  stays = λ goes. tt;
   mark = refl;
   has_waited = refl;
   pipe = λ goes. record { line = tt; stray = refl; out = refl; reading = refl; none_alone = λ may. absurd cc };

@@ -68,6 +68,7 @@ conn_on s n p k none shows = record {
   has_brought = shows.has_brought;
   may_pipeline = shows.may_pipeline;
   is_closing = shows.is_closing;
+  stays = shows.stays;
   mark = shows.mark;
   has_waited = shows.has_waited;
   pipe = λ goes. pipe_on s n p k (none goes) (shows.pipe goes);

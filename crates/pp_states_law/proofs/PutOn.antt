@@ -63,6 +63,7 @@ put_conn number name owed l p s x e peer k shows put shown = record {
   has_brought = shown.has_brought;
   may_pipeline = shown.may_pipeline;
   is_closing = shown.is_closing;
+  stays = shown.stays;
   mark = shown.mark;
   has_waited = shown.has_waited;
   pipe = λ goes. line_puts s peer k e shown put.goes_on (record { there = put.known; is_new = none (has_number e.number k.line) refl; with_others = put.with_others });

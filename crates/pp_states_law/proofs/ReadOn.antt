@@ -13,7 +13,8 @@ use Rattle.pp_peers.specs.Peers.{is_number}
 use Rattle.pp_peers.specs.declared.peers.Peer.{Peer}
 use Rattle.pp_peers_law.proofs.Heads.{heads}
 use Rattle.pp_peers_law.specs.Comes.{IsFinalRead, IsHeadRead, IsRefused, IsRuledRead, IsTextRead, behind_interim}
-use Rattle.pp_peers_law.specs.Peers.{ShowsConn, ShowConns, ShowsPipe, ShowsReading}
+use Rattle.pp_peers_law.specs.Peers.{ShowsConn, ShowConns, ShowsPipe, ShowsReading, ShowsStaying}
+use Rattle.pp_pipe.specs.Front.{stays_open}
 use Rattle.pp_pipe.specs.Reading.{Reading, Before, Within, Closed, Broken}
 use Rattle.pp_pipe.specs.declared.step.Step.TheVariants.{Idle}
 use Rattle.pp_states_law.specs.Readings.{AnswersBeginAsTheLaws, BodiesGoOnAsTheLaws, HeadsGoOnAsTheLaws, ReadingsAreTheLaws}
@@ -39,9 +40,9 @@ shown_at s n (p ∷ ps) (j ∷ ks) peer k linked there shows = by (is_number n p
 
 -- ---- its pipe reads on
 
-read_conn : (s : State) (peer : Peer) (k : Conn) (left : Reading) (stays : Bool) (u : Bytes) (o : Option Answer) → (k.is_closing ≡ false → ShowsReading left u o) → ShowsConn s peer k
+read_conn : (s : State) (peer : Peer) (k : Conn) (left : Reading) (stays : Bool) (u : Bytes) (o : Option Answer) → (k.is_closing ≡ false → ShowsReading left u o) → (k.is_closing ≡ false → ShowsStaying stays o) → ShowsConn s peer k
     → ShowsConn s (record peer { pipe = record peer.pipe { reading = left }; stays = stays }) (record k { unread = u; answer = o })
-read_conn s peer k left stays u o reads shown = record {
+read_conn s peer k left stays u o reads says shown = record {
   number = shown.number;
   host = shown.host;
   port = shown.port;
@@ -49,6 +50,7 @@ read_conn s peer k left stays u o reads shown = record {
   has_brought = shown.has_brought;
   may_pipeline = shown.may_pipeline;
   is_closing = shown.is_closing;
+  stays = says;
   mark = shown.mark;
   has_waited = shown.has_waited;
   pipe = λ goes. record { line = (shown.pipe goes).line; stray = (shown.pipe goes).stray; out = (shown.pipe goes).out; reading = reads goes; none_alone = (shown.pipe goes).none_alone };
@@ -56,7 +58,7 @@ read_conn s peer k left stays u o reads shown = record {
 
 pub readings : ReadingsAreTheLaws
 unfolding on_conn
-readings number name owed l p s shows peer k left stays unread answer apart is reads =
+readings number name owed l p s shows peer k left stays unread answer apart is reads says =
     kept_line number name owed l p s shows k.number (record peer { pipe = record peer.pipe { reading = left }; stays = stays }) to (apart k.number) (λ j. (refl, refl)) goes
   where
     to : Conn → Conn
@@ -72,7 +74,7 @@ readings number name owed l p s shows peer k left stays unread answer apart is r
     goes q j found there shown =
         let same : j ≡ k = same_some k j (conn s k.number) is.there there in
         subst (λ (i : Conn). ShowsConn t (record peer { pipe = record peer.pipe { reading = left }; stays = stays }) (to i)) (sym same)
-        (read_conn t peer k left stays (unread k) (answer k) (λ going. reads)
+        (read_conn t peer k left stays (unread k) (answer k) (λ going. reads) (λ going. says)
         (again peer k (subst (λ (i : Conn). ShowsConn s peer i) same (subst (λ (r : Peer). ShowsConn s r j) (same_some peer q (find (is_number k.number) p.peers) is.linked found) shown))))
 
 -- ---- amid a head
@@ -98,6 +100,7 @@ pub heads_go_on : HeadsGoOnAsTheLaws
 heads_go_on number name owed l p s shows peer k e b bytes used left apart is none early first fed =
     readings number name owed l p s shows peer k left peer.stays (λ j. text) (λ j. j.answer) apart is
     (subst (λ (r : Reading). ShowsReading r text k.answer) (sym at) (subst (λ (o : Option Answer). ShowsReading (Before text) text o) (sym none) refl))
+    (subst (λ (o : Option Answer). ShowsStaying peer.stays o) (sym none) tt)
   where
     text : Bytes
     text = behind_interim (k.unread ++ b ∷ bytes)
@@ -111,7 +114,7 @@ heads_go_on number name owed l p s shows peer k e b bytes used left apart is non
 -- ---- amid a body
 
 pub answers_begin : AnswersBeginAsTheLaws
-answers_begin number name owed l p s shows peer k e head rule left stays apart is reads = readings number name owed l p s shows peer k left stays (λ j. []) (λ j. Some (answer_with e head rule)) apart is reads
+answers_begin number name owed l p s shows peer k e head rule left apart is reads = readings number name owed l p s shows peer k left (stays_open head) (λ j. []) (λ j. Some (answer_with e head rule)) apart is reads refl
 
 nothing_unread : (reading : Reading) (unread : Bytes) (a : Answer) → ShowsReading reading unread (Some a) → unread ≡ []
 nothing_unread (Before text) unread a shows = absurd shows
@@ -122,9 +125,13 @@ nothing_unread Broken unread a shows = absurd shows
 pub bodies_go_on : BodiesGoOnAsTheLaws
 bodies_go_on number name owed l p s shows peer k a bytes left apart is has reads =
     readings number name owed l p s shows peer k left peer.stays (λ j. j.unread) (λ j. Some (record a { raw = a.raw ++ bytes })) apart is (subst (λ (u : Bytes). ShowsReading left u (Some (record a { raw = a.raw ++ bytes }))) (sym none) reads)
+    (subst (λ (o : Option Answer). ShowsStaying peer.stays o) has (shown.stays is.goes_on))
   where
+    shown : ShowsConn s peer k
+    shown = shown_at s k.number p.peers s.conns peer k is.linked is.there shows.conns
+
     pipe : ShowsPipe s peer k
-    pipe = (shown_at s k.number p.peers s.conns peer k is.linked is.there shows.conns).pipe is.goes_on
+    pipe = shown.pipe is.goes_on
 
     none : k.unread ≡ []
     none = nothing_unread peer.pipe.reading k.unread a (subst (λ (o : Option Answer). ShowsReading peer.pipe.reading k.unread o) has pipe.reading)

@@ -213,6 +213,7 @@ rested_conn s peer k e others head p is once none stays shown =
       has_brought = refl;
       may_pipeline = λ goes. ap₂ (λ (a b : Bool). a || b) (shown.may_pipeline goes) (pipelined head stays);
       is_closing = shown.is_closing;
+      stays = λ goes. tt;
       mark = shown.mark;
       has_waited = shown.has_waited;
       pipe = λ goes. rested_pipe s peer k e others head p is once none stays shown;
@@ -292,6 +293,7 @@ closed_conn t s peer pipe k j number host port reached brought closing mark wait
   has_brought = sym brought;
   may_pipeline = λ goes. absurd (not_both j.is_closing closing goes);
   is_closing = sym closing;
+  stays = λ goes. absurd (not_both j.is_closing closing goes);
   mark = shown.mark ∙ sym mark;
   has_waited = shown.has_waited ∙ sym waited;
   pipe = λ goes. absurd (not_both j.is_closing closing goes);

@@ -122,6 +122,7 @@ text_conn number name owed l p s m x e peer k shows is text few shown = record {
   has_brought = shown.has_brought;
   may_pipeline = shown.may_pipeline;
   is_closing = shown.is_closing;
+  stays = shown.stays;
   mark = shown.mark;
   has_waited = shown.has_waited;
   pipe = λ goes.

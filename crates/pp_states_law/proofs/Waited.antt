@@ -83,6 +83,7 @@ conn_rested s t p k w waited tells same shows = record {
   has_brought = those.has_brought;
   may_pipeline = those.may_pipeline;
   is_closing = those.is_closing;
+  stays = those.stays;
   mark = ap₂ (λ (b : Bool) (m : ℕ). cond b m s.clock) (ap₂ (λ (a b : Bool). a && b) tells those.has_waited) those.mark ∙ chosen (is_waited_for w k && k.has_waited) k.mark s.clock;
   has_waited = tells;
   pipe = λ going. as_it_was t p (rested_peer waited s.clock p) k (rested_conn s w k) refl refl refl refl refl (those.pipe going);

@@ -1,5 +1,6 @@
 pub mod Askings
 pub mod Asks
+pub mod Charges
 pub mod Clients
 pub mod Conns
 pub mod Decisions
@@ -8,9 +9,13 @@ pub mod Endings
 pub mod Exchanges
 pub mod Frames
 pub mod Gots
+pub mod Lines
+pub mod Losses
 pub mod Puts
 pub mod Readings
 pub mod Rows
 pub mod States
+pub mod Steps
+pub mod Told
 pub mod Turns
 pub mod Waiting

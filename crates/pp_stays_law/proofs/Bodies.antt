@@ -2,8 +2,8 @@
 use Rattle.std.proofs.Common.{◌≡◌, ◌≤◌, refl, sym, subst, ap, ◌∙◌, ℕ, true, List, Some, None}
 use Rattle.std.specs.Prelude.{count_by}
 use Rattle.pp_cache_law.proofs.Numbers.{is_same}
-use Rattle.pp_closings_law.specs.Sides.{MayClose, ShowsSides}
-use Rattle.pp_closings_law.specs.Unseen.{IsCountedOn}
+use Rattle.pp_turns_law.specs.Sides.{MayClose, ShowsSides}
+use Rattle.pp_turns_law.specs.Unread.{IsCountedOn}
 use Rattle.pp_deciding_law.specs.Cuts.{behind_cut}
 use Rattle.pp_deciding_law.specs.Takes.{behind_taken}
 use Rattle.pp_desk.specs.Closings.{Sides, sides}

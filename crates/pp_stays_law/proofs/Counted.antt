@@ -6,8 +6,8 @@ use Rattle.pp_cache_law.proofs.Finds.{find_passes, found_counted}
 use Rattle.pp_cache_law.proofs.Numbers.{is_same, some_is}
 use Rattle.pp_cache_law.proofs.PairLemmas.{count_first}
 use Rattle.pp_cache_law.specs.Pairs.{AreAll}
-use Rattle.pp_closings_law.specs.Unseen.{IsCountedOn}
-use Rattle.pp_flow.specs.Changes.{Exchanges, is_on, line_of, numbers}
+use Rattle.pp_turns_law.specs.Unread.{IsCountedOn}
+use Rattle.pp_flow.specs.Changes.{Exchanges, entry_of, is_on, line_of, numbers}
 use Rattle.pp_flow.specs.Entries.{is_number}
 use Rattle.pp_flow.specs.declared.entry.Entry.{Entry}
 use Rattle.pp_flow.specs.declared.errand.Body.{Body}
@@ -215,7 +215,7 @@ stands_in m n (y ∷ es) x there on = by (is_number m y) refl there (λ rest. st
 
 -- ---- so it is counted behind them
 
-counted_as : (body : Body) (k j : Conn) → came_of j ≡ came_of k → IsCounted body k → IsCounted body j
+pub counted_as : (body : Body) (k j : Conn) → came_of j ≡ came_of k → IsCounted body k → IsCounted body j
 counted_as Pending k j same counted = tt
 counted_as (Joining wanted) k j same counted = tt
 counted_as Relaying k j same counted = tt
@@ -224,7 +224,7 @@ counted_as (Dropping count) k j same counted = counted ∙ sym same
 pending_counted : (body : Body) (k : Conn) → body ≡ Pending → IsCounted body k
 pending_counted body k is = subst (λ (b : Body). IsCounted b k) (sym is) tt
 
-found_of : (W : Entry → Type 0) (n : ℕ) (xs : List Entry) (x : Entry) → find (is_number n) xs ≡ Some x → AllOf W xs → W x
+pub found_of : (W : Entry → Type 0) (n : ℕ) (xs : List Entry) (x : Entry) → find (is_number n) xs ≡ Some x → AllOf W xs → W x
 found_of W n [] x there all = absurd (cc there)
 found_of W n (y ∷ ys) x there all = by (is_number n y) there (λ rest. found_of W n ys x rest all.1)
   where
@@ -232,8 +232,35 @@ found_of W n (y ∷ ys) x there all = by (is_number n y) there (λ rest. found_o
     by true found rest = subst W (some_is y x found) all.0
     by false found rest = rest found
 
-module _ (number later_number : ℕ → ℕ) (f g : Exchanges) (s t : State) (shows : ShowsFlow number none_leaves f s) (behind : ShowsFlow later_number none_leaves g t) (before : AllOf (IsAsBefore f) g.placed)
-    (came : (n : ℕ) (k j : Conn) → conn s n ≡ Some k → conn t n ≡ Some j → came_of j ≡ came_of k) (counted : (n : ℕ) (k : Conn) → conn s n ≡ Some k → IsCountedOn f k) where
+-- ---- what becomes of each body, where it stood
+
+-- it had that place, and so it is related to what it was
+pub record Stood (R : Entry → Entry → Type 0) (f : Exchanges) (x : Entry) : Type 0 where
+  pub before : Entry
+  pub there : find (is_number x.exchange.number) f.placed ≡ Some before
+  pub place : x.exchange.place ≡ before.exchange.place
+  pub related : R before x
+
+-- nothing came of it, or it stood there
+abbrev pub HasStood : (Entry → Entry → Type 0) → Exchanges → Entry → Type 0
+HasStood R f x = (x.errand.body ≡ Pending) ⊎ Stood R f x
+
+-- such a one stood in the line of a connection, and stands in it
+pub record StandsStill (f g : Exchanges) (s t : State) (n m : ℕ) (k j : Conn) (b x : Entry) : Type 0 where
+  pub before : conn s n ≡ Some k
+  pub there : conn t n ≡ Some j
+  pub was : entry_of m f ≡ Some b
+  pub is : entry_of m g ≡ Some x
+  pub stood : has_number m k.line ≡ true
+  pub stands : has_number m j.line ≡ true
+  pub number : x.exchange.number ≡ m
+
+-- of it as much is counted
+abbrev pub CountsOn : (Entry → Entry → Type 0) → Exchanges → Exchanges → State → State → Type 0
+CountsOn R f g s t = (n m : ℕ) (k j : Conn) (b x : Entry) → StandsStill f g s t n m k j b x → R b x → IsCounted b.errand.body k → IsCounted x.errand.body j
+
+module _ (number later_number : ℕ → ℕ) (R : Entry → Entry → Type 0) (f g : Exchanges) (s t : State) (shows : ShowsFlow number none_leaves f s) (behind : ShowsFlow later_number none_leaves g t) (before : AllOf (HasStood R f) g.placed)
+    (counts : CountsOn R f g s t) (counted : (n : ℕ) (k : Conn) → conn s n ≡ Some k → IsCountedOn f k) where
   record WasOn (n m : ℕ) (d : Entry) : Type 0 where
     conn_is : Conn
     there : conn s n ≡ Some conn_is
@@ -246,22 +273,50 @@ module _ (number later_number : ℕ → ℕ) (f g : Exchanges) (s t : State) (sh
       by None is has = absurd (cc has)
       by (Some k) is has = record { conn_is = k; there = is; has = has }
 
-  was_counted : (n m : ℕ) (j : Conn) (x : Entry) → conn t n ≡ Some j → is_number m x ≡ true → is_on n x ≡ true → WasPlaced f x → IsCounted x.errand.body j
-  was_counted n m j x there num on was =
+  was_counted : (n m : ℕ) (j : Conn) (x : Entry) → conn t n ≡ Some j → has_number m j.line ≡ true → entry_of m g ≡ Some x → is_number m x ≡ true → is_on n x ≡ true → Stood R f x → IsCounted x.errand.body j
+  was_counted n m j x there has at num on was =
       let same : x.exchange.number ≡ m = is_same x.exchange.number m num in
       let here : find (is_number m) f.placed ≡ Some was.before = ap (λ (i : ℕ). find (is_number i) f.placed) (sym same) ∙ was.there in
       let old : WasOn n m was.before = was_on n m was.before here (ap (λ (o : Option ℕ). elim o as (λ b. Bool) [ None ↦ false | Some k ↦ k == n ]) (sym was.place) ∙ on) in
-      subst (λ (b : Body). IsCounted b j) (sym was.body)
-      (counted_as was.before.errand.body old.conn_is j (came n old.conn_is j old.there there)
-      (counted n old.conn_is old.there m was.before old.has (entry_placed m f was.before (none_waits number none_leaves f s shows m was.before here) here)))
+      let at_first : entry_of m f ≡ Some was.before = entry_placed m f was.before (none_waits number none_leaves f s shows m was.before here) here in
+      counts n m old.conn_is j was.before x (record { before = old.there; there = there; was = at_first; is = at; stood = old.has; stands = has; number = same }) was.related
+      (counted n old.conn_is old.there m was.before old.has at_first)
 
-  pub counted_behind : (n : ℕ) (j : Conn) → conn t n ≡ Some j → IsCountedOn g j
-  counted_behind n j there m e has here =
+  pub counted_as_stood : (n : ℕ) (j : Conn) → conn t n ≡ Some j → IsCountedOn g j
+  counted_as_stood n j there m e has here =
       let in_line : is_in m n g.placed ≡ true = ap (λ (line : List ℕ). has_number m line) (behind.lines n ∙ ap (λ (o : Option Conn). line_in o) there) ∙ has in
       let one : StandsAt m n g.placed = stands_at m n g.placed (few_placed later_number none_leaves g t behind m) in_line in
-      let same : one.entry ≡ e = some_is one.entry e (sym (entry_placed m g one.entry (none_waits later_number none_leaves g t behind m one.entry one.there) one.there) ∙ here) in
-      subst (λ (x : Entry). IsCounted x.errand.body j) same (by one (found_of (IsAsBefore f) m g.placed one.entry one.there before))
+      let at : entry_of m g ≡ Some one.entry = entry_placed m g one.entry (none_waits later_number none_leaves g t behind m one.entry one.there) one.there in
+      let same : one.entry ≡ e = some_is one.entry e (sym at ∙ here) in
+      subst (λ (x : Entry). IsCounted x.errand.body j) same (by one at (found_of (HasStood R f) m g.placed one.entry one.there before))
     where
-      by : (one : StandsAt m n g.placed) → IsAsBefore f one.entry → IsCounted one.entry.errand.body j
-      by one (inl nothing) = pending_counted one.entry.errand.body j nothing
-      by one (inr was) = was_counted n m j one.entry there (find_passes (is_number m) g.placed one.entry one.there) one.on was
+      by : (one : StandsAt m n g.placed) → entry_of m g ≡ Some one.entry → HasStood R f one.entry → IsCounted one.entry.errand.body j
+      by one at (inl nothing) = pending_counted one.entry.errand.body j nothing
+      by one at (inr was) = was_counted n m j one.entry there has at (find_passes (is_number m) g.placed one.entry one.there) one.on was
+
+-- ---- where each is as it was
+
+abbrev pub SameBody : Entry → Entry → Type 0
+SameBody b x = x.errand.body ≡ b.errand.body
+
+pub all_stood : (R : Entry → Entry → Type 0) (f : Exchanges) (xs : List Entry) → ((b x : Entry) → SameBody b x → R b x) → AllOf (IsAsBefore f) xs → AllOf (HasStood R f) xs
+all_stood R f [] suits all = tt
+all_stood R f (x ∷ xs) suits all = (by all.0, all_stood R f xs suits all.1)
+  where
+    by : IsAsBefore f x → HasStood R f x
+    by (inl nothing) = inl nothing
+    by (inr was) = inr (record { before = was.before; there = was.there; place = was.place; related = suits was.before x was.body })
+
+-- each stands where it stood
+stood_found : (f : Exchanges) (xs : List Entry) → AllOf (IsFound f.placed) xs → AllOf (Stood SameBody f) xs
+stood_found f [] all = tt
+stood_found f (x ∷ xs) all = (record { before = x; there = all.0; place = refl; related = refl }, stood_found f xs all.1)
+
+pub all_stand : (number : ℕ → ℕ) (f : Exchanges) (s : State) → ShowsFlow number none_leaves f s → AllOf (Stood SameBody f) f.placed
+all_stand number f s shows = stood_found f f.placed (all_themselves f.placed (few_placed number none_leaves f s shows))
+
+pub counted_behind : (number later_number : ℕ → ℕ) (f g : Exchanges) (s t : State) → ShowsFlow number none_leaves f s → ShowsFlow later_number none_leaves g t → AllOf (IsAsBefore f) g.placed → ((n : ℕ) (k j : Conn) → conn s n ≡ Some k → conn t n ≡ Some j → came_of j ≡ came_of k)
+    → ((n : ℕ) (k : Conn) → conn s n ≡ Some k → IsCountedOn f k) → (n : ℕ) (j : Conn) → conn t n ≡ Some j → IsCountedOn g j
+counted_behind number later_number f g s t shows behind before came counted =
+    counted_as_stood number later_number SameBody f g s t shows behind (all_stood SameBody f g.placed (λ b x is. is) before)
+    (λ n m k j b x on same its. subst (λ (body : Body). IsCounted body j) (sym same) (counted_as b.errand.body k j (came n k j on.before on.there) its)) counted

@@ -4,8 +4,8 @@ use Rattle.std.specs.List.{list_any}
 use Rattle.std.specs.Prelude.{IfOk, count_by}
 use Rattle.pp_cache_law.proofs.Finds.{none_found}
 use Rattle.pp_cache_law.proofs.PairLemmas.{none_of}
-use Rattle.pp_closings_law.proofs.Noted.{stays as stays_there}
-use Rattle.pp_closings_law.specs.Log.{IsConnecting}
+use Rattle.pp_turns_law.proofs.AllDropped.{stays as stays_there}
+use Rattle.pp_turns_law.specs.Log.{IsConnecting}
 use Rattle.pp_desk.specs.Closings.{Sides}
 use Rattle.pp_flow.specs.Changes.{entry_of}
 use Rattle.pp_flow_law.proofs.Entries.{same_as}
@@ -31,7 +31,7 @@ use Rattle.pp_places_law.specs.Refusals.{MayBeRefused, lost_in}
 use Rattle.pp_state.specs.Ends.{Parts, ended, lost_attempt, may_ask_again as may_ask_again_in}
 use Rattle.pp_state.specs.declared.state.State.{State as Turn}
 use Rattle.pp_states_law.proofs.Framed.{states}
-use Rattle.pp_steps_law.specs.Steps.{ShowsSteps, whole}
+use Rattle.pp_states_law.specs.Steps.{ShowsSteps, whole}
 use Rattle.pp_store.specs.Kept.{KeptMap}
 use Rattle.pp_take.specs.Unplaced.{asked_again_where}
 use Rattle.pp_world.specs.Log.{Log}

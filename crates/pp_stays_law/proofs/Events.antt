@@ -1,7 +1,7 @@
 -- What holds of the law's state holds behind connections that are closed.
 use Rattle.std.proofs.Common.{◌≡◌, ◌⊎◌, inl, inr, refl, sym, subst, ap, ◌∙◌, ℕ, Bool, true, false, find, List, [], ◌∷◌, ◌++◌, Option, Some, None}
-use Rattle.pp_closings_law.proofs.Noted.{stays as stays_there}
-use Rattle.pp_closings_law.specs.Log.{IsConnecting}
+use Rattle.pp_turns_law.proofs.AllDropped.{stays as stays_there}
+use Rattle.pp_turns_law.specs.Log.{IsConnecting}
 use Rattle.pp_desk.specs.Shutting.{closed_as, closings}
 use Rattle.pp_law.specs.After.{after, changed, dropped, out, shut}
 use Rattle.pp_law.specs.Connections.{conn, placing, put_on}

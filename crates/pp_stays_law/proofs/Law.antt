@@ -4,7 +4,7 @@ use Rattle.std.proofs.Common.{◌≡◌, refl, ℕ, Bool, true, false, not, ◌=
 use Rattle.pp_ask.specs.declared.kind.AskKind.{AskKind}
 use Rattle.pp_deciding_law.specs.Cuts.{behind_cut}
 use Rattle.pp_deciding_law.specs.Takes.{behind_taken, room_made, to_take}
-use Rattle.pp_decides_law.specs.Ways.{left_for}
+use Rattle.pp_turns_law.specs.Ways.{left_for}
 use Rattle.pp_flow_law.specs.Frames.{emptied}
 use Rattle.pp_head.specs.Request.{Request}
 use Rattle.pp_law.specs.After.{out, shut, take_decision}

@@ -28,10 +28,10 @@ use Rattle.pp_seats_law.specs.Fates.{filled_in}
 use Rattle.pp_state.specs.Ends.{Parts, charged, charged_at, cleared_of, dropped_row, given_up_row, lost_attempt, numbers_of, on_seat, place_of, seat_for, with_course}
 use Rattle.pp_state.specs.Keys.{key_of}
 use Rattle.pp_states_law.proofs.Changed.{asker_is}
-use Rattle.pp_steps_law.proofs.Charged.{Costs, asker_rest, lost_given, number_is, on_asker, same_entry, unfilled_same}
-use Rattle.pp_steps_law.proofs.Places.{HasNone, HasPlace, HasSeat, at_place, has_none, has_place, has_seat, numbers_set}
-use Rattle.pp_steps_law.specs.Charges.{GoesOn, IsFor, IsThere}
-use Rattle.pp_steps_law.specs.Steps.{ShowsSteps}
+use Rattle.pp_states_law.proofs.Charged.{Costs, asker_rest, lost_given, number_is, on_asker, same_entry, unfilled_same}
+use Rattle.pp_states_law.proofs.Places.{HasNone, HasPlace, HasSeat, at_place, has_none, has_place, has_seat, numbers_set}
+use Rattle.pp_states_law.specs.Charges.{GoesOn, IsFor, IsThere}
+use Rattle.pp_states_law.specs.Steps.{ShowsSteps}
 use Rattle.pp_target.specs.Key.{text_of}
 
 abbrev pub Noted : Parts → State → Type 0

@@ -1,10 +1,10 @@
 -- What nobody sees, asks that are given up, and followers: what the program has then, and what the law has.
 use Rattle.std.proofs.Common.{◌≡◌, sym, subst, ℕ, List, None}
 use Rattle.pp_cache.specs.Memory.{Memory}
-use Rattle.pp_closings_law.proofs.AllSeen.{all_drop}
-use Rattle.pp_closings_law.specs.Sides.{MayClose, ShowsSides}
-use Rattle.pp_closings_law.specs.Unseen.{Tells}
-use Rattle.pp_decides_law.proofs.GivenUp.{waiting_in_order}
+use Rattle.pp_turns_law.proofs.AllSeen.{all_drop}
+use Rattle.pp_turns_law.specs.Sides.{MayClose, ShowsSides}
+use Rattle.pp_turns_law.specs.Unread.{Tells}
+use Rattle.pp_turns_law.proofs.GivenUp.{waiting_in_order}
 use Rattle.pp_deciding_law.proofs.Framed.{steps_in}
 use Rattle.pp_desk.specs.Closings.{Sides, sides, with_parts}
 use Rattle.pp_desk.specs.Origins.{without_unseen}

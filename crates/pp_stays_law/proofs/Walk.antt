@@ -5,8 +5,8 @@ use Rattle.std.specs.List.{list_any}
 use Rattle.std.specs.Prelude.{slice_get, slice_set}
 use Rattle.pp_cache.specs.Memory.{Memory}
 use Rattle.pp_cache_law.proofs.Numbers.{is_same, some_is}
-use Rattle.pp_decides_law.proofs.Changed.{get_set}
-use Rattle.pp_decides_law.proofs.Regained.{get_other}
+use Rattle.pp_turns_law.proofs.Changed.{get_set}
+use Rattle.pp_turns_law.proofs.Regained.{get_other}
 use Rattle.pp_flow.specs.Changes.{Exchanges, changed, first_of, with_errand, without}
 use Rattle.pp_flow.specs.Entries.{asking, begun_with, is_number, nobodys}
 use Rattle.pp_flow.specs.declared.entry.Aim.{Aim}
@@ -89,7 +89,7 @@ change_first W n f (y ∷ ys) x found one all = by (is_number n y) found (λ lat
     by true is rest = (subst (λ (z : Entry). W (f z)) (sym (some_is y x is)) one, all.1)
     by false is rest = (all.0, rest is)
 
-found_any : (n : ℕ) (xs : List Entry) (x : Entry) → find (is_number n) xs ≡ Some x → list_any (is_number n) xs ≡ true
+pub found_any : (n : ℕ) (xs : List Entry) (x : Entry) → find (is_number n) xs ≡ Some x → list_any (is_number n) xs ≡ true
 found_any n [] x found = absurd (cc found)
 found_any n (y ∷ ys) x found = by (is_number n y) found (λ later. found_any n ys x later)
   where
@@ -97,7 +97,7 @@ found_any n (y ∷ ys) x found = by (is_number n y) found (λ later. found_any n
     by true is rest = refl
     by false is rest = rest is
 
-none_any : (n : ℕ) (xs : List Entry) → find (is_number n) xs ≡ None → list_any (is_number n) xs ≡ false
+pub none_any : (n : ℕ) (xs : List Entry) → find (is_number n) xs ≡ None → list_any (is_number n) xs ≡ false
 none_any n [] none = refl
 none_any n (y ∷ ys) none = by (is_number n y) none (λ later. none_any n ys later)
   where

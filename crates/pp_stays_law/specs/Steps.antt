@@ -1,7 +1,7 @@
 -- What holds of a turn and of the law's state holds behind each step of decisions and rounds, where the turn stands before and behind it, the
 -- log obeys the law, and this life did not go astray (ours): in the form in which `pp_rounds_law` asks for it.
 use Rattle.std.specs.Prelude.{◌≡◌, ℕ, true, false, List, ◌++◌, None}
-use Rattle.pp_closings_law.specs.Sides.{MayClose}
+use Rattle.pp_turns_law.specs.Sides.{MayClose}
 use Rattle.pp_deciding_law.specs.Cuts.{IsCutNext, behind_cut}
 use Rattle.pp_deciding_law.specs.Stands.{StandsBehind}
 use Rattle.pp_deciding_law.specs.Takes.{IsNext, behind_taken}

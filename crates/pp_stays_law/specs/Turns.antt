@@ -1,7 +1,7 @@
 -- What stands in a turn through its decisions and rounds, beside what the turn shows (ours).
 use Rattle.std.specs.Prelude.{◌≡◌, ◌≤◌, ℕ, false, length, slice_get, Some}
 use Rattle.pp_cache_law.specs.Outdated.{AreNoted}
-use Rattle.pp_closings_law.specs.Unseen.{IsCountedOn}
+use Rattle.pp_turns_law.specs.Unread.{IsCountedOn}
 use Rattle.pp_keeps_law.specs.Stands.{HasOpenNames}
 use Rattle.pp_law.specs.Connections.{conn}
 use Rattle.pp_law.specs.State.{State, Conn}

@@ -71,5 +71,5 @@ module _ (terms : List Term) (s : State) (log : Log) (obeys : Obeys terms s log)
         let there = in_find (is_exchange m) e (ending s).exchanges is in
         let number : e.number ≡ m = same_number e.number m there.1 in
         let line : IsIn e.number k.line = subst (λ (n : ℕ). IsIn n k.line) (sym number) (number_in m k.line has) in
-        one_line e.number k.line (t.lined.alone k e i there.0 line (alone_with e (t.once e there.0) left)) line ∙ ap (λ (n : ℕ). n ∷ []) number;
+        one_line e.number k.line (t.lined.alone k e i there.0 line (alone_with e (t.once e there.0).once left)) line ∙ ap (λ (n : ℕ). n ∷ []) number;
   }

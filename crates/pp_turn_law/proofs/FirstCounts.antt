@@ -42,7 +42,7 @@ none_woken files s = none_begun (term_in s.terms) _ (record { failures = refl; t
 -- ---- the steps of the opening
 
 -- FILE was read
-asked_none : (named text : Option Bytes) → is_some text ≡ is_some named → count_by fails (asked_for named text) ≡ 0
+pub asked_none : (named text : Option Bytes) → is_some text ≡ is_some named → count_by fails (asked_for named text) ≡ 0
 asked_none None text both = refl
 asked_none (Some file) (Some bytes) both = refl
 asked_none (Some file) None both = absurd (cc both)
@@ -50,7 +50,7 @@ asked_none (Some file) None both = absurd (cc both)
 in_all : (before between after now a b c : ℕ) → before ≤ between → between + b ≤ after → after ≤ now → a ≡ 0 → c ≡ 0 → before + (a + (b + c)) ≤ now
 in_all before between after now a b c h1 h2 h3 none last = omega (arith, h1, h2, h3, none, last)
 
-same_added : (front one two : Log) → front ++ one ≡ front ++ two → one ≡ two
+pub same_added : (front one two : Log) → front ++ one ≡ front ++ two → one ≡ two
 same_added [] one two is = is
 same_added (h ∷ hs) one two is = same_added hs one two (cc is)
 

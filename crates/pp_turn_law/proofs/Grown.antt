@@ -1,7 +1,7 @@
 -- What an event rests on of what grew, and where nothing is to be kept.
 use Rattle.std.proofs.Common.{◌≡◌, ◌≤◌, sym, subst, ap, ◌∙◌, ℕ, length, List, [], ◌∷◌, ◌++◌, Some, None, arith}
 use Rattle.std.specs.Prelude.{vec_capacity}
-use Rattle.pp_decides_law.proofs.GivenUp.{waiting_in_order}
+use Rattle.pp_turns_law.proofs.GivenUp.{waiting_in_order}
 use Rattle.pp_desk.specs.declared.desk.Desk.{Desk}
 use Rattle.pp_events_law.specs.Stands.{come}
 use Rattle.pp_flow_law.specs.Tables.{none_leaves}
@@ -30,8 +30,8 @@ use Rattle.pp_turn_law.specs.Kept.{HasGoneToDecide, LeavesAndKeeps}
 use Rattle.pp_turn_law.specs.Waited.{HasWaitedOn}
 use Rattle.pp_world.specs.declared.happening.Happening.TheVariants.{Waits}
 
-numbered : (number : ℕ → ℕ) (d : Desk) (s : State) → ShowsTurn number none_leaves d.peers d.state s → AreNumbered d.state.flow
-numbered number d s shows = shown_numbered number none_leaves d.state.flow s (waiting_in_order number d.state.name.items none_leaves d.peers (parts d.state) s shows.steps) shows.steps.shows.exchanges
+pub are_numbered : (number : ℕ → ℕ) (d : Desk) (s : State) → ShowsTurn number none_leaves d.peers d.state s → AreNumbered d.state.flow
+are_numbered number d s shows = shown_numbered number none_leaves d.state.flow s (waiting_in_order number d.state.name.items none_leaves d.peers (parts d.state) s shows.steps) shows.steps.shows.exchanges
 
 has_room : (n cap : ℕ) → n ≡ 32768 → 32768 ≤ cap → n ≤ cap
 has_room n cap is holds = omega (arith, is, holds)
@@ -39,7 +39,7 @@ has_room n cap is holds = omega (arith, is, holds)
 pub awaited_grow : AwaitedOnesMayGrow
 awaited_grow terms log number w x u it carried = record {
   bounded = it.stands.desk.turn.bounded;
-  numbered = numbered number x.moving.desk (rest_with w u) it.stands.desk.turn;
+  numbered = are_numbered number x.moving.desk (rest_with w u) it.stands.desk.turn;
   short = λ k. lines_short number x.moving.desk.state.flow (rest_with w u) k it.stands.desk.turn.steps.shows.exchanges (sound_turns terms (rest_with w u) log it.obeys).bounded.lines;
   room = has_room (length x.moving.desk.buffer.items) (vec_capacity x.moving.desk.«data») it.buffer it.holds;
   whole = chunks_whole x.shelf (rest_with w u) carried.disk.shows;
@@ -68,7 +68,7 @@ handled_leave life budget log after number x y s st does told few straight = not
 pub served_leave : ServedOnesLeaveNothing
 served_leave number x y s kept does nothing =
     subst (λ (shelf : KeptMap). HasNothingToKeep y.moving.desk.state shelf) (sym does.shelf)
-    (settlings_leave x.shelf x.moving y.moving does.settles.added kept.turn.bounded (numbered number x.moving.desk s kept.turn) does.settles.is nothing)
+    (settlings_leave x.shelf x.moving y.moving does.settles.added kept.turn.bounded (are_numbered number x.moving.desk s kept.turn) does.settles.is nothing)
 
 pub turns_leave : TurnsLeaveNothing
 turns_leave life budget log behind after w event x f all faults handled kept y number s t turns handles stands keeps told few straight serves nothing =

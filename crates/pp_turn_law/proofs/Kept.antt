@@ -2,11 +2,11 @@
 use Rattle.std.proofs.Common.{◌≡◌, ◌≤◌, sym, subst, ap, ◌∙◌, ℕ, ◌+◌, true, false, List, [], ◌++◌, append_assoc, length, Option, Some, arith}
 use Rattle.std.specs.Prelude.{count_by}
 use Rattle.pp_cache_law.proofs.PairLemmas.{count_joined as joined}
-use Rattle.pp_decides_law.proofs.GivenUp.{waiting_in_order}
+use Rattle.pp_turns_law.proofs.GivenUp.{waiting_in_order}
 use Rattle.pp_desk.specs.declared.desk.Desk.{Desk}
 use Rattle.pp_evicting_law.proofs.Left.{leaving}
 use Rattle.pp_evicting_law.specs.Evicting.{HasLeft, IsDoneWithEvent, MayLeave, left_behind}
-use Rattle.pp_decides_law.proofs.GivenUp.{waiting_in_order}
+use Rattle.pp_turns_law.proofs.GivenUp.{waiting_in_order}
 use Rattle.pp_flow.specs.Changes.{numbers as flow_numbers}
 use Rattle.pp_flow_law.specs.Tables.{none_leaves}
 use Rattle.pp_given_law.proofs.CountedOver.{as_kept, as_left}

@@ -1,3 +1,5 @@
+pub mod AllTaken
+pub mod AllTurns
 pub mod Along
 pub mod Awaited
 pub mod AwakeOn
@@ -5,7 +7,9 @@ pub mod BesideOn
 pub mod CallsHandled
 pub mod DeskLeft
 pub mod DeskOn
+pub mod EarlyEnds
 pub mod Ends
+pub mod FewNames
 pub mod FirstCounts
 pub mod FirstEvents
 pub mod FirstOver
@@ -13,7 +17,11 @@ pub mod FirstWait
 pub mod Grown
 pub mod HandledFrom
 pub mod HandledSo
+pub mod Headlines
 pub mod Kept
+pub mod LifeNamed
+pub mod LifeServed
+pub mod LivesWake
 pub mod LoadsCounted
 pub mod LoadsHandled
 pub mod LostLaw
@@ -24,6 +32,7 @@ pub mod Order
 pub mod OrderTurns
 pub mod PlainOnes
 pub mod ReadSo
+pub mod Runs
 pub mod ServedOn
 pub mod Serves
 pub mod SettingsOn
@@ -34,9 +43,11 @@ pub mod StoppedOnes
 pub mod Supplied
 pub mod ToldBack
 pub mod TurnHalf
+pub mod TurnLogs
 pub mod TurnOver
 pub mod TurnStops
 pub mod Waited
 pub mod WaitsAgain
 pub mod WaysOut
 pub mod WholeChunks
+pub mod Woken

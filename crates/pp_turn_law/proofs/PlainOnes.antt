@@ -1,7 +1,8 @@
 -- Each event is handled but the read of an origin that brings bytes, or the chunk of a client that was to be written to could not be read back.
-use Rattle.std.proofs.Common.{◌≡◌, inl, refl, sym, ap, ◌∙◌, ℕ, zero, suc, Bool, true, false, ◌==◌, cond, List, [], ◌∷◌, ◌++◌, Option, Some, None}
+use Rattle.std.proofs.Common.{◌≡◌, ◌≤◌, ◌+◌, inl, refl, sym, ap, ◌∙◌, ℕ, zero, suc, Bool, true, false, ◌==◌, cond, List, [], ◌∷◌, ◌++◌, Option, Some, None}
 use Rattle.std.specs.Prelude.{option_map, slice_get}
 use Rattle.pp_comes_law.specs.Origins.{OriginReadsCome}
+use Rattle.pp_desk.specs.Anything.{anything}
 use Rattle.pp_desk.specs.declared.desk.Desk.{Desk}
 use Rattle.pp_due.specs.OnDisk.{next_on_disk}
 use Rattle.pp_joints_law.specs.Behind.{MayNote}
@@ -13,7 +14,8 @@ use Rattle.pp_proxy.specs.Moving.{Turning}
 use Rattle.pp_seats.specs.declared.seat.Next.{Next}
 use Rattle.pp_seats.specs.declared.seat.Seat.{Seat}
 use Rattle.pp_state.specs.Ends.{numbers_of, place_of}
-use Rattle.pp_world.specs.Log.{Log}
+use Rattle.pp_store.specs.Held.{Holds}
+use Rattle.pp_world.specs.Log.{Log, Told}
 use Rattle.pp_world.specs.declared.event.Event.{Event}
 use Rattle.pp_world.specs.declared.event.Event.TheVariants.{Accepted, Broken, Readable, Reached, Stop, Tick, Writable}
 use Rattle.pp_world.specs.declared.event.Wants.{Wants}
@@ -41,34 +43,34 @@ seat_at n i (first ∷ seats) there = by (first.client.id == n) there (λ j at. 
     by true at rest = let same : zero ≡ i = cc at in (first, ap (λ (m : ℕ). slice_get (first ∷ seats) m) (sym same))
     by false at rest = later (place_of n (numbers_of seats)) at rest
 
-module _ (leads : OriginReadsCome) (life : Life) (budget : ℕ) (log : Log) (x : Standing) (s : State) (st : StandsOn life budget log x s) (w : Wants) (f : Desk) (all : Log) (faults : ℕ) (h : Turning) (short : IsShortLog (log ++ Waits w ∷ [])) where
+module _ (leads : OriginReadsCome) (life : Life) (budget : ℕ) (log : Log) (x : Standing) (s : State) (st : StandsOn life budget log x s) (w : Wants) (f : Desk) (all : Log) (faults : ℕ) (h : Turning) (short : IsShortLog (log ++ Waits w ∷ [])) (holds : Told x.turning.log (Holds anything x.turning.shelf)) (few : h.faults ≤ budget + life.base) where
   may : (event : Event) → Calls life budget log w event x f all faults h s → MayNote (awaiting x f all faults).moving
   may event calls = room_behind life budget log all faults x w calls.turns.clients calls.turns.awaiting f s st.wait st.few calls.turns.awaits calls.turns.rests
 
-  read_one : (id : ℕ) (o : Option ℕ) → place_of id (numbers_of f.state.seats.items) ≡ o → Calls life budget log w (Readable id) x f all faults h s → IsPlain life budget x s (Readable id) f all h → IsHandledOn life budget log w (Readable id) h
+  read_one : (id : ℕ) (o : Option ℕ) → place_of id (numbers_of f.state.seats.items) ≡ o → Calls life budget log w (Readable id) x f all faults h s → IsPlain (Readable id) f all h → IsHandledOn life budget log w (Readable id) h
   read_one id None off calls plain = origin_ends_handled leads id life budget log w x f all faults h s off short calls (may (Readable id) calls) (plain off)
   read_one id (Some i) here calls plain = client_reads_handled id i life budget log w x f all faults h s here calls
 
   -- the chunk of its next byte is in memory, or is read back, or lost
-  seated_one : (id i : ℕ) (seat : Seat) (o : Option Next) → place_of id (numbers_of f.state.seats.items) ≡ Some i → slice_get f.state.seats.items i ≡ Some seat → next_on_disk f.state seat ≡ o → Calls life budget log w (Writable id) x f all faults h s → IsPlain life budget x s (Writable id) f all h
+  seated_one : (id i : ℕ) (seat : Seat) (o : Option Next) → place_of id (numbers_of f.state.seats.items) ≡ Some i → slice_get f.state.seats.items i ≡ Some seat → next_on_disk f.state seat ≡ o → Calls life budget log w (Writable id) x f all faults h s
       → IsTaken life budget log w (Writable id) h
-  seated_one id i seat None place here held calls plain = inl (client_writes_handled id i seat life budget log w x f all faults h s place here held short calls)
-  seated_one id i seat (Some next) place here alone calls plain = loads_handled id i seat next life budget log w x f all faults h s place here alone short calls (plain i seat next place here alone)
+  seated_one id i seat None place here held calls = inl (client_writes_handled id i seat life budget log w x f all faults h s place here held short calls)
+  seated_one id i seat (Some next) place here alone calls = loads_handled id i seat next life budget log w x f all faults h s place here alone short calls (record { holds = holds; bounded = st.bounded; size = st.size; few = few })
 
-  written_one : (id : ℕ) (o : Option ℕ) → place_of id (numbers_of f.state.seats.items) ≡ o → Calls life budget log w (Writable id) x f all faults h s → IsPlain life budget x s (Writable id) f all h → IsTaken life budget log w (Writable id) h
-  written_one id None off calls plain = inl (origin_writes_handled id life budget log w x f all faults h s off calls (may (Writable id) calls))
-  written_one id (Some i) here calls plain =
+  written_one : (id : ℕ) (o : Option ℕ) → place_of id (numbers_of f.state.seats.items) ≡ o → Calls life budget log w (Writable id) x f all faults h s → IsTaken life budget log w (Writable id) h
+  written_one id None off calls = inl (origin_writes_handled id life budget log w x f all faults h s off calls (may (Writable id) calls))
+  written_one id (Some i) here calls =
       let seat : (seat : Seat) × (slice_get f.state.seats.items i ≡ Some seat) = seat_at id i f.state.seats.items here in
-      seated_one id i seat.0 (next_on_disk f.state seat.0) here seat.1 refl calls plain
+      seated_one id i seat.0 (next_on_disk f.state seat.0) here seat.1 refl calls
 
-  pub one_handled : (event : Event) → Calls life budget log w event x f all faults h s → IsPlain life budget x s event f all h → IsTaken life budget log w event h
+  pub one_handled : (event : Event) → Calls life budget log w event x f all faults h s → IsPlain event f all h → IsTaken life budget log w event h
   one_handled Stop calls plain = stops_handled life budget log w x f all faults h s calls.turns calls.handles
   one_handled (Tick seconds) calls plain = ticks_handled seconds life budget log w x f all faults h s calls.turns calls.handles (may (Tick seconds) calls)
   one_handled (Accepted c) calls plain = clients_handled c life budget log w x f all faults h s calls.turns calls.handles
   one_handled (Readable id) calls plain = read_one id (place_of id (numbers_of f.state.seats.items)) refl calls plain
-  one_handled (Writable id) calls plain = written_one id (place_of id (numbers_of f.state.seats.items)) refl calls plain
+  one_handled (Writable id) calls plain = written_one id (place_of id (numbers_of f.state.seats.items)) refl calls
   one_handled (Reached k) calls plain = reached_handled k life budget log w x f all faults h s calls.turns calls.handles
   one_handled (Broken k) calls plain = broken_handled k life budget log w x f all faults h s calls.turns calls.handles (may (Broken k) calls)
 
 pub plain_handled : OriginReadsCome → PlainOnesAreHandled
-plain_handled leads life budget log x s st w event f all faults h calls short plain = one_handled leads life budget log x s st w f all faults h short event calls plain
+plain_handled leads life budget log x s st holds w event f all faults h calls short few plain = one_handled leads life budget log x s st w f all faults h short holds few event calls plain

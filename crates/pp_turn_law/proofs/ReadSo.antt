@@ -2,11 +2,12 @@
 use Rattle.std.proofs.Common.{◌≡◌, ◌≤◌, ◌⊎◌, inl, inr, refl, sym, subst, ap, ◌∙◌, ℕ, ◌+◌, Bool, false, ◌&&◌, cond, List, [], ◌∷◌, ◌++◌, append_assoc, length, take, Option, Some, None, Ok, Err, arith}
 use Rattle.std.specs.Prelude.{count_by, vec_capacity}
 use Rattle.pp_cache_law.proofs.PairLemmas.{count_first}
-use Rattle.pp_closings_law.proofs.Peers.{HasPeer, linked}
+use Rattle.pp_turns_law.proofs.Peers.{HasPeer, linked}
 use Rattle.pp_comes_law.proofs.KeptOpen.{goes_on}
 use Rattle.pp_comes_law.proofs.OriginReads.{wanted}
 use Rattle.pp_comes_law.proofs.OriginWanted.{IsWanted}
 use Rattle.pp_comes_law.specs.Moments.{MayBringBeside}
+use Rattle.pp_conf.specs.Conf.{Settings}
 use Rattle.pp_comes_law.specs.Origins.{AreToldBehind, IsOfOrigin, IsReadBehind, OriginReadsCome}
 use Rattle.pp_desk.specs.Calls.{Found, read_log}
 use Rattle.pp_desk.specs.declared.desk.Desk.{Desk}
@@ -15,7 +16,7 @@ use Rattle.pp_events_law.proofs.Touched.{link_of}
 use Rattle.pp_given_law.proofs.CountedEnds.{as_ended}
 use Rattle.pp_given_law.specs.Ends.{AreOfEnd}
 use Rattle.pp_joints_law.proofs.BytesBehind.{origin_bytes_carry}
-use Rattle.pp_joints_law.proofs.CallsBehind.{WasAdded, was_added}
+use Rattle.pp_joints_law.proofs.CallsBehind.{WasAdded, drop_front, some_same, was_added}
 use Rattle.pp_joints_law.proofs.Ends.{origin_ends_carry}
 use Rattle.pp_joints_law.specs.BehindEnds.{BringsNoBytes}
 use Rattle.pp_joints_law.specs.Behind.{CarriesOn, HasFew, MayNote, StandsBefore}
@@ -31,6 +32,8 @@ use Rattle.pp_laws_sides.proofs.Linked.{links_few}
 use Rattle.pp_laws_sides.specs.Counts.{IsShortLog}
 use Rattle.pp_laws_turn.proofs.Laws.{sound_turns}
 use Rattle.pp_links.specs.Links.{IsLinked}
+use Rattle.pp_obeys.proofs.Frames.{Frame}
+use Rattle.pp_obeys.proofs.StaysTurns.{ending-frame}
 use Rattle.pp_obeys.specs.Failures.{fails}
 use Rattle.pp_obeys.specs.Obeys.{Life}
 use Rattle.pp_origins.specs.Gots.{Receives, both}
@@ -176,10 +179,33 @@ module _ (leads : OriginReadsCome) (k : ℕ) (life : Life) (budget : ℕ) (log :
   receives : Receives (length woken.buffer.items) came.shelf k came.moving.links (both woken) (both y.moving.desk) came.log y.log
   receives = reads.receives has_room
 
-  module _ (noted : MayNote came.moving) (brings : (desk : Desk) → Wakes k f desk → MayBringBeside k (at_desk desk came) y (event (owing (ReadOf k) k rested))) where
+  -- bytes came, or none did
+  pub bytes_or_none : ((bytes : Bytes) × (y.log ≡ Some (all ++ Got k bytes ∷ []))) ⊎ BroughtNone k all y
+  unfolding CameOrNone
+  bytes_or_none = by (came_or_none k receives.found receives.front all)
+    where
+      was : (l : Log) × (Some all ≡ Some l) × (calls.told.log ≡ l ++ read_log k receives.found receives.front l)
+      was = receives.told.was calls.told.log calls.told.told
+
+      now : calls.told.log ≡ all ++ read_log k receives.found receives.front all
+      now = subst (λ (l : Log). calls.told.log ≡ l ++ read_log k receives.found receives.front l) (sym (some_same all was.0 was.1)) was.2
+
+      by : CameOrNone k (read_log k receives.found receives.front all) → ((bytes : Bytes) × (y.log ≡ Some (all ++ Got k bytes ∷ []))) ⊎ BroughtNone k all y
+      by (inl came_so) = inl (came_so.0, calls.told.told ∙ ap (λ (l : Log). Some l) (now ∙ ap (λ (l : Log). all ++ l) came_so.1))
+      by (inr none) = inr (λ bytes is. none bytes (drop_front all (read_log k receives.found receives.front all) (Got k bytes ∷ []) (sym now ∙ some_same calls.told.log (all ++ Got k bytes ∷ []) (sym calls.told.told ∙ is))))
+
+  -- over the wait neither the cache nor what is set changes
+  same_settings : rested.settings ≡ s.settings
+  unfolding rest_with
+  same_settings = ap (λ (z : Frame). z.settings) (ending-frame false s)
+
+  sized : x.turning.moving.desk.state.cache.size ≡ s.settings.critical → came.moving.desk.state.cache.size ≡ rested.settings.critical
+  sized size = ap (λ (d : Desk). d.state.cache.size) it.rests.rest ∙ ap (λ (d : Desk). d.state.cache.size) it.awaits.rest ∙ size ∙ sym (ap (λ (c : Settings). c.critical) same_settings)
+
+  module _ (noted : MayNote came.moving) (size : (bytes : Bytes) → AppendsAll came.log y.log (λ l. Got k bytes ∷ []) → came.moving.desk.state.cache.size ≡ rested.settings.critical) (brings : (desk : Desk) → Wakes k f desk → MayBringBeside k (at_desk desk came) y (event (owing (ReadOf k) k rested))) where
     read : IsReadBehind k came y rested
     read =
-        leads k terms waiting it.stands.number w came y (ending s) off come.stands come.came (record { brings = brings; next = goes_on terms rested waiting come.stands.obeys short }) calls.handles it.bounded it.straight
+        leads k terms waiting it.stands.number w came y (ending s) off come.stands come.came (record { brings = brings; disk = record { done = stood.carried.disk.done; shows = stood.carried.disk.shows; names = stood.carried.disk.names }; size = size; next = goes_on terms rested waiting come.stands.obeys short }) calls.handles it.bounded it.straight
 
     abbrev hs : Log
     hs = read.led.log
@@ -246,13 +272,10 @@ module _ (leads : OriginReadsCome) (k : ℕ) (life : Life) (budget : ℕ) (log :
 
   module _ (noted : MayNote came.moving) (none : BroughtNone k all y) where
     never : (desk : Desk) → Wakes k f desk → MayBringBeside k (at_desk desk came) y (event (owing (ReadOf k) k rested))
-    never desk wakes = record {
-      rests = λ begins next bytes brought same got straight. absurd (none bytes (added_is all (Got k bytes ∷ []) y.log (calls.told.log, calls.told.told) brought.told));
-      followed = λ begins next bytes brought same got straight. absurd (none bytes (added_is all (Got k bytes ∷ []) y.log (calls.told.log, calls.told.told) brought.told));
-    }
+    never desk wakes = record { rests = λ begins next bytes brought same got straight. absurd (none bytes (added_is all (Got k bytes ∷ []) y.log (calls.told.log, calls.told.told) brought.told)) }
 
     on : IsReadOn k life budget log w came y rested
-    on = read_on noted never
+    on = read_on noted (λ bytes told. absurd (none bytes (added_is all (Got k bytes ∷ []) y.log (calls.told.log, calls.told.told) told))) never
 
     no_bytes : (bytes : Bytes) → on.led.log ≡ Got k bytes ∷ [] → ⊥
     no_bytes bytes is = none bytes (added_is all (Got k bytes ∷ []) y.log (calls.told.log, calls.told.told) (subst (λ (l : Log). AppendsAll (Some all) y.log (λ m. l)) is on.led.told))
@@ -282,7 +305,7 @@ module _ (leads : OriginReadsCome) (k : ℕ) (life : Life) (budget : ℕ) (log :
     }
 
 pub origin_reads_handled : OriginReadsCome → OriginReadsAreHandled
-origin_reads_handled leads k life budget log w x f all faults y s off short calls noted brings = read_on leads k life budget log w x f all faults y s off short calls noted brings
+origin_reads_handled leads k life budget log w x f all faults y s off short calls noted size brings = read_on leads k life budget log w x f all faults y s off short calls noted (λ bytes told. sized leads k life budget log w x f all faults y s off short calls size) brings
 
 pub origin_ends_handled : OriginReadsCome → OriginEndsAreHandled
 origin_ends_handled leads k life budget log w x f all faults y s off short calls noted none = ends_on leads k life budget log w x f all faults y s off short calls noted none

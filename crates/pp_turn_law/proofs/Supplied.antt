@@ -6,7 +6,7 @@ use Rattle.pp_asks_law.proofs.Begins.{replies_may}
 use Rattle.pp_asks_law.proofs.Few.{few_awake}
 use Rattle.pp_asks_law.proofs.GoWithout.{dials_may, few_given}
 use Rattle.pp_asks_law.specs.Rests.{HasNumbers, RestsOn as AsksRestOn}
-use Rattle.pp_closings_law.specs.Sides.{MayClose}
+use Rattle.pp_turns_law.specs.Sides.{MayClose}
 use Rattle.pp_deciding_law.proofs.Found.{first_keeps}
 use Rattle.pp_desk.specs.declared.desk.Desk.{Desk}
 use Rattle.pp_given_law.proofs.NamesFew.{names_stay}

@@ -1,6 +1,6 @@
--- From the last wait, over Stop, to where all is closed.
+-- From the last wait, wherever that was, over Stop, to where all is closed.
 use Rattle.std.proofs.Common.{◌≡◌, ◌≤◌, ◌<◌, refl, sym, subst, ap, ◌∙◌, ℕ, Bool, true, false, ◌+◌, cond, length, List, [], ◌∷◌, ◌++◌, append_assoc, Option, Some, None, le_trans, arith}
-use Rattle.pp_decides_law.proofs.GivenUp.{waiting_in_order}
+use Rattle.pp_turns_law.proofs.GivenUp.{waiting_in_order}
 use Rattle.pp_desk.specs.Closings.{Sides}
 use Rattle.pp_desk.specs.declared.desk.Desk.{Desk}
 use Rattle.pp_events_law.specs.Stands.{come}
@@ -11,13 +11,9 @@ use Rattle.pp_flow_law.proofs.Told.{counts}
 use Rattle.pp_flow_law.specs.Tables.{none_leaves}
 use Rattle.pp_grown_law.proofs.Noted.{nothing_is_noted}
 use Rattle.pp_joints_law.specs.Keeping.{kept_in}
-use Rattle.pp_law.specs.Phases.{ending}
 use Rattle.pp_law.specs.State.{State}
-use Rattle.pp_law.specs.Turn.{rest_with}
 use Rattle.pp_laws_turn.proofs.Laws.{sound_turns}
 use Rattle.pp_laws_turn.specs.SoundTurn.{IsSoundTurn}
-use Rattle.pp_obeys.proofs.Frames.{Frame}
-use Rattle.pp_obeys.proofs.StaysTurns.{ending-frame}
 use Rattle.pp_obeys.specs.Obeys.{Life, Obeys}
 use Rattle.pp_proxy.specs.Awaiting.{Standing, TurnsOn, turn_behind}
 use Rattle.pp_proxy.specs.Handling.{Stops}
@@ -39,10 +35,9 @@ use Rattle.pp_world.specs.declared.event.Wants.{Wants}
 use Rattle.pp_world.specs.declared.happening.Happening.TheVariants.{Waits}
 use Rattle.pp_turn_law.proofs.SilentOnes.{stops_handled}
 use Rattle.pp_turn_law.proofs.StoppedOnes.{handled_stop, same_long, stops_said}
-use Rattle.pp_turn_law.proofs.TurnHalf.{HasTurned, turned}
-use Rattle.pp_turn_law.proofs.Waited.{turns_wait}
+use Rattle.pp_turn_law.proofs.TurnHalf.{HasTaken, HasTurned, StandsOver, stands_over, turned, turns_taken}
 use Rattle.pp_turn_law.specs.Awaited.{awaiting}
-use Rattle.pp_turn_law.specs.Going.{StandsOn}
+use Rattle.pp_turn_law.specs.Going.{IsTaken, StandsOn}
 use Rattle.pp_turn_law.specs.Handled.{IsHandledOn}
 use Rattle.pp_turn_law.specs.Served.{most_happenings}
 use Rattle.pp_turn_law.specs.Stopped.{HasStoppedBehind, IsToStop}
@@ -60,11 +55,6 @@ is_stop (Some (Readable id)) is = absurd (cc is)
 is_stop (Some (Writable id)) is = absurd (cc is)
 is_stop (Some (Reached k)) is = absurd (cc is)
 is_stop (Some (Broken k)) is = absurd (cc is)
-
--- the wait says no Stop
-rest_goes : (w : Wants) (s : State) → (rest_with w s).is_stopped ≡ s.is_stopped
-unfolding rest_with
-rest_goes w s = refl
 
 -- ---- exchanges that are given up are fewer
 
@@ -111,15 +101,17 @@ module _ (x y : Moving) (log : Log) (leaves : Leaves x log y) where
 
 -- ---- all of it
 
-module _ (life : Life) (budget : ℕ) (log after : Log) (x y : Standing) (s : State) (st : StandsOn life budget log x s) (turns : TurnsOn Stopped x y) (well : IsStraight y.turning) (told : y.turning.log ≡ Some after) (few : y.turning.faults ≤ budget + life.base) (brief : length after < most_happenings) where
+-- wherever its wait was
+module _ (life : Life) (budget : ℕ) (log after : Log) (x y : Standing) (s : State) (number : ℕ → ℕ) (turns : TurnsOn Stopped x y) (st : StandsOver life budget log x s number turns.wants turns.clients turns.rested turns.event) (well : IsStraight y.turning) (told : y.turning.log ≡ Some after)
+    (few : y.turning.faults ≤ budget + life.base) (brief : length after < most_happenings) where
   abbrev w : Wants
   w = turns.wants
 
   abbrev f : Desk
   f = turns.rested
 
-  half : HasTurned life budget log w turns.clients Stop x f y.turning s
-  half = turned life budget log after Stopped x y s st turns well told few Stop (is_stop turns.event turns.result_is)
+  half : HasTurned life budget log w Stop x f y.turning
+  half = turned life budget log after Stopped x y s number turns st well told few brief Stop (is_stop turns.event turns.result_is)
 
   abbrev h : Turning
   h = half.handled
@@ -128,32 +120,32 @@ module _ (life : Life) (budget : ℕ) (log after : Log) (x y : Standing) (s : St
   k = half.kept
 
   on : IsHandledOn life budget log w Stop h
-  on = stops_handled life budget log w x f half.all half.faults h s half.turns half.handles
+  on = half.on
 
   stops : Stops f h.moving.desk
-  stops = half.handles.0
+  stops = half.taken.handles.0
 
   -- ---- so many clients and exchanges there are at the wait
 
-  waits : HasWaitedOn life budget log x w turns.clients f st.wait.number s
-  waits = turns_wait life budget log x w turns.clients turns.awaiting f s st.wait turns.awaits turns.rests
+  waits : HasWaitedOn life budget log x w turns.clients f number s
+  waits = st.waited
 
   sound : IsSoundTurn (rested w s)
   sound = sound_turns (life.terms budget) (rested w s) (log ++ Waits w ∷ []) waits.comes.obeys
 
   few_seats : length f.state.seats.items ≤ 256
-  few_seats = subst (λ (n : ℕ). n ≤ 256) (sym (same_length st.wait.number f.state.name.items f.state.seats.items (rested w s).clients waits.awaits.stands.desk.turn.steps.shows.clients)) sound.bounded.clients
+  few_seats = subst (λ (n : ℕ). n ≤ 256) (sym (same_length number f.state.name.items f.state.seats.items (rested w s).clients waits.awaits.stands.desk.turn.steps.shows.clients)) sound.bounded.clients
 
   few_flow : under_way f.state.flow ≤ 768
-  few_flow = subst (λ (n : ℕ). n ≤ 768) (sym (counts st.wait.number none_leaves f.state.flow (rested w s) waits.awaits.stands.desk.turn.steps.shows.exchanges).0) (sound.bounded.exchanges going)
+  few_flow = subst (λ (n : ℕ). n ≤ 768) (sym (counts number none_leaves f.state.flow (rested w s) waits.awaits.stands.desk.turn.steps.shows.exchanges).0) (sound.bounded.exchanges going)
     where
       going : (rested w s).is_stopped ≡ false
-      going = rest_goes w (ending s) ∙ ap (λ (g : Frame). g.is_stopped) (ending-frame false s) ∙ st.wait.going
+      going = sym waits.awaits.stands.desk.turn.stopped ∙ ap (λ (d : Desk). d.state.is_stopped) turns.rests.rest ∙ ap (λ (d : Desk). d.state.is_stopped) turns.awaits.rest ∙ st.going
 
   -- ---- all are looked at
 
   said : IsToStop h.moving.desk.state
-  said = stops_said (come Stop (awaiting x f half.all half.faults)) h half.handles (omega (arith, few_seats, waits.carried.set.room))
+  said = stops_said (come Stop (awaiting x f half.all half.faults)) h half.taken.handles (omega (arith, few_seats, waits.carried.set.room))
 
   -- ---- and behind the disk there is room to note names
 
@@ -206,5 +198,20 @@ module _ (life : Life) (budget : ℕ) (log after : Log) (x y : Standing) (s : St
     nobody = stopped.stopped.stopped.nobody;
   }
 
+-- ---- where a turn waits as from one wait to the next
+
+only_stop : (life : Life) (budget : ℕ) (log : Log) (x y : Standing) (s : State) → StandsOn life budget log x s → (turns : TurnsOn Stopped x y) (event : Event) → event ≡ Stop → (all : Log) (faults : ℕ) (h : Turning) → HasTaken turns.wants event x turns.rested all faults h → IsTaken life budget log turns.wants event h
+only_stop life budget log x y s st turns Stop is all faults h it = stops_handled life budget log turns.wants x turns.rested all faults h s (turns_taken life budget log Stopped x y s st turns Stop all faults h it) it.handles
+only_stop life budget log x y s st turns (Tick seconds) is all faults h it = absurd (cc is)
+only_stop life budget log x y s st turns (Accepted c) is all faults h it = absurd (cc is)
+only_stop life budget log x y s st turns (Readable id) is all faults h it = absurd (cc is)
+only_stop life budget log x y s st turns (Writable id) is all faults h it = absurd (cc is)
+only_stop life budget log x y s st turns (Reached k) is all faults h it = absurd (cc is)
+only_stop life budget log x y s st turns (Broken k) is all faults h it = absurd (cc is)
+
 pub turns_end : TurnsStop
-turns_end life budget log after x y s st turns well told few brief = stopped_at life budget log after x y s st turns well told few brief
+turns_end life budget log after x y s st turns well told few brief =
+    stopped_at life budget log after x y s st.wait.number turns (stands_over life budget log Stopped x y s st turns (λ event is all faults h it short less. only_stop life budget log x y s st turns event (same event is) all faults h it)) well told few brief
+  where
+    same : (event : Event) → turns.event ≡ Some event → event ≡ Stop
+    same event is = let both : Some event ≡ Some Stop = sym is ∙ is_stop turns.event turns.result_is in cc both

@@ -44,7 +44,7 @@ ended_over false false stopped empty ends going = absurd (cc ends)
 ended_over true true true empty ends going = absurd (cc going)
 ended_over false true true empty ends going = absurd (cc going)
 
-none_over : (under end stopped empty : Bool) → under ≡ false → stopped ≡ false → ((not under || end) && (not stopped || empty)) ≡ true
+pub none_over : (under end stopped empty : Bool) → under ≡ false → stopped ≡ false → ((not under || end) && (not stopped || empty)) ≡ true
 none_over false end false empty off going = refl
 none_over true end stopped empty off going = absurd (cc off)
 none_over false end true empty off going = absurd (cc going)

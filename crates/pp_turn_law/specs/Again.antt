@@ -1,6 +1,6 @@
--- From where a turn served to where it may wait again: what a turn leaves, and what is not shown of it yet (ours).
+-- From where a turn served to where it may wait again: what a turn leaves, and what stands beside (ours).
 --
--- Where the premises come from: HasServedOn of Served, by whatever led there. Of `read` Whole has all, and of `apart` OverWaits.
+-- Where the premises come from: HasServedOn of Served, by whatever led there. Of `read` Whole has all, and of `apart` OverWaits; they are joined in Going.
 use Rattle.std.specs.Prelude.{◌≡◌, ◌++◌, ℕ, false}
 use Rattle.pp_joints_law.specs.Unnoted.{NoneIsUnnoted}
 use Rattle.pp_law.specs.State.{State}

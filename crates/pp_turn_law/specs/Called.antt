@@ -3,8 +3,7 @@
 -- read back before; where it cannot be, its entry is gone, and nothing is said.
 --
 -- Where the premises come from: as in Handled. Which connections are open is told by the log also behind the call (Links of `pp_links`, at
--- each call); and the log is told there. That there are as many chunks as are set stands from the opening on, and a turn does not change how many
--- there are (Sized).
+-- each call); and the log is told there. That there are as many chunks as are set stands at each wait (Going).
 use Rattle.std.specs.Prelude.{◌≡◌, ◌≤◌, ◌⊎◌, ◌+◌, ◌++◌, ℕ, [], ◌∷◌, slice_get, Some, None}
 use Rattle.pp_cache.specs.Bounds.{IsBounded}
 use Rattle.pp_comes_law.specs.Origins.{IsOfOrigin}
@@ -65,9 +64,8 @@ ClientWritesAreHandled = (id i : ℕ) (seat : Seat) (life : Life) (budget : ℕ)
 pub record StandsToLoad (life : Life) (budget : ℕ) (x : Standing) (y : Turning) (s : State) : Type 0 where
   -- TurnsOn of `pp_proxy`
   pub holds : Told x.turning.log (Holds anything x.turning.shelf)
-  -- as each cache is: ServesOn of Served
+  -- at each wait: StandsOn of Going
   pub bounded : IsBounded x.turning.moving.desk.state.cache
-  -- from the opening on (Opening.`IsNew` of `pp_desk`)
   pub size : x.turning.moving.desk.state.cache.size ≡ s.settings.critical
   -- no more often than the life may have
   pub few : y.faults ≤ budget + life.base

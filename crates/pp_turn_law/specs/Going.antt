@@ -1,11 +1,11 @@
 -- From one wait to the next: all of a turn, beside a log that obeys the law (ours).
 --
--- Where the premises come from: what a turn does is TurnsOn of `pp_proxy`; which events are handled say Handled, Called and Read. As a life begins
--- its first event is handled (Opening), and from there it goes on as here. That there are as many chunks as are set, which the write to a client
--- rests on whose next byte is on the disk alone, Sized has of the program; that the settings of a life stay is not said here.
-use Rattle.std.specs.Prelude.{◌≡◌, ◌≤◌, ◌<◌, ◌⊎◌, ◌+◌, ◌++◌, ℕ, [], ◌∷◌, length, slice_get, vec_capacity, Some, None, ⊤}
+-- Where the premises come from: what a turn does is TurnsOn of `pp_proxy`; which events are handled say Handled, Called, Read and Brought. As a life begins
+-- its first event is handled (Opening), and from there it goes on as here. All turns of a life, one behind the other, are of Turned.
+use Rattle.std.specs.Prelude.{◌≡◌, ◌≤◌, ◌<◌, ◌⊎◌, ◌+◌, ◌++◌, ℕ, [], ◌∷◌, length, vec_capacity, Some, None, ⊤}
+use Rattle.pp_cache.specs.Bounds.{IsBounded}
+use Rattle.pp_desk.specs.Anything.{anything}
 use Rattle.pp_desk.specs.declared.desk.Desk.{Desk}
-use Rattle.pp_due.specs.OnDisk.{next_on_disk}
 use Rattle.pp_given_law.specs.MayNote.{most_names}
 use Rattle.pp_grown_law.specs.Grown.{HasNothingToKeep}
 use Rattle.pp_law.specs.State.{State}
@@ -14,17 +14,16 @@ use Rattle.pp_obeys.specs.Obeys.{Life}
 use Rattle.pp_proxy.specs.Awaiting.{Standing, TurnsOn}
 use Rattle.pp_proxy.specs.Moving.{Turning}
 use Rattle.pp_proxy.specs.declared.proxy.Turn.TheVariants.{Went}
-use Rattle.pp_seats.specs.declared.seat.Next.{Next}
-use Rattle.pp_seats.specs.declared.seat.Seat.{Seat}
 use Rattle.pp_state.specs.Ends.{numbers_of, place_of}
-use Rattle.pp_turn_law.specs.Called.{Calls, IsLostOn, StandsToLoad}
+use Rattle.pp_store.specs.Held.{Holds}
+use Rattle.pp_turn_law.specs.Called.{Calls, IsLostOn}
 use Rattle.pp_turn_law.specs.Handled.{IsHandledOn}
 use Rattle.pp_turn_law.specs.Ordered.{StandsOrdered}
 use Rattle.pp_turn_law.specs.Read.{BroughtNone}
 use Rattle.pp_turn_law.specs.Served.{most_happenings}
 use Rattle.pp_turn_law.specs.Straight.{IsStraight}
 use Rattle.pp_turn_law.specs.Waited.{StandsAtWait}
-use Rattle.pp_world.specs.Log.{Log}
+use Rattle.pp_world.specs.Log.{Log, Told}
 use Rattle.pp_world.specs.declared.event.Event.{Event}
 use Rattle.pp_world.specs.declared.event.Event.TheVariants.{Accepted, Broken, Readable, Reached, Stop, Tick, Writable}
 use Rattle.pp_world.specs.declared.event.Wants.{Wants}
@@ -39,6 +38,9 @@ pub record StandsOn (life : Life) (budget : ℕ) (log : Log) (x : Standing) (s :
   pub buffer : length x.turning.moving.desk.buffer.items ≡ 32768
   pub holds : 32768 ≤ vec_capacity x.turning.moving.desk.«data»
   pub ordered : StandsOrdered x.turning.moving
+  -- the cache may have as many chunks as are set
+  pub size : x.turning.moving.desk.state.cache.size ≡ s.settings.critical
+  pub bounded : IsBounded x.turning.moving.desk.state.cache
   -- for the disk nothing is left to be kept, and few names are noted
   pub nothing : HasNothingToKeep x.turning.moving.desk.state x.turning.shelf
   pub few : length x.turning.moving.desk.state.cache.outdated ≤ most_names
@@ -55,24 +57,25 @@ IsTaken life budget log w (Writable id) h = IsHandledOn life budget log w (Writa
 IsTaken life budget log w (Reached k) h = IsHandledOn life budget log w (Reached k) h
 IsTaken life budget log w (Broken k) h = IsHandledOn life budget log w (Broken k) h
 
--- so is the event of a turn
+-- so is the event of a turn; the log is not too long with the wait, and the outside failed no more often than the life may have
 abbrev pub ItsEventIsTaken : (life : Life) (budget : ℕ) (log : Log) (x y : Standing) (s : State) → TurnsOn Went x y → Type 0
-ItsEventIsTaken life budget log x y s turns = (event : Event) → turns.event ≡ Some event → (all : Log) (faults : ℕ) (h : Turning) → Calls life budget log turns.wants event x turns.rested all faults h s → IsTaken life budget log turns.wants event h
+ItsEventIsTaken life budget log x y s turns = (event : Event) → turns.event ≡ Some event → (all : Log) (faults : ℕ) (h : Turning) → Calls life budget log turns.wants event x turns.rested all faults h s → IsShortLog (log ++ Waits turns.wants ∷ [])
+    → h.faults ≤ budget + life.base → IsTaken life budget log turns.wants event h
 
--- it brings no bytes of an origin; and where a client is written to whose next byte is on the disk alone, its chunk may be read back
-abbrev pub IsPlain : Life → ℕ → Standing → State → Event → Desk → Log → Turning → Type 0
-IsPlain life budget x s Stop f all h = ⊤
-IsPlain life budget x s (Tick seconds) f all h = ⊤
-IsPlain life budget x s (Accepted c) f all h = ⊤
-IsPlain life budget x s (Readable id) f all h = place_of id (numbers_of f.state.seats.items) ≡ None → BroughtNone id all h
-IsPlain life budget x s (Writable id) f all h = (i : ℕ) (seat : Seat) (next : Next) → place_of id (numbers_of f.state.seats.items) ≡ Some i → slice_get f.state.seats.items i ≡ Some seat → next_on_disk f.state seat ≡ Some next → StandsToLoad life budget x h s
-IsPlain life budget x s (Reached k) f all h = ⊤
-IsPlain life budget x s (Broken k) f all h = ⊤
+-- it brings no bytes of an origin
+abbrev pub IsPlain : Event → Desk → Log → Turning → Type 0
+IsPlain Stop f all h = ⊤
+IsPlain (Tick seconds) f all h = ⊤
+IsPlain (Accepted c) f all h = ⊤
+IsPlain (Readable id) f all h = place_of id (numbers_of f.state.seats.items) ≡ None → BroughtNone id all h
+IsPlain (Writable id) f all h = ⊤
+IsPlain (Reached k) f all h = ⊤
+IsPlain (Broken k) f all h = ⊤
 
--- each of these is taken; the log is not too long with the wait
+-- each of these is taken; the shelf holds at the wait, as TurnsOn of `pp_proxy` has it
 abbrev pub PlainOnesAreHandled : Type 0
-PlainOnesAreHandled = (life : Life) (budget : ℕ) (log : Log) (x : Standing) (s : State) → StandsOn life budget log x s → (w : Wants) (event : Event) (f : Desk) (all : Log) (faults : ℕ) (h : Turning) → Calls life budget log w event x f all faults h s → IsShortLog (log ++ Waits w ∷ []) → IsPlain life budget x s event f all h
-    → IsTaken life budget log w event h
+PlainOnesAreHandled = (life : Life) (budget : ℕ) (log : Log) (x : Standing) (s : State) → StandsOn life budget log x s → Told x.turning.log (Holds anything x.turning.shelf) → (w : Wants) (event : Event) (f : Desk) (all : Log) (faults : ℕ) (h : Turning) → Calls life budget log w event x f all faults h s
+    → IsShortLog (log ++ Waits w ∷ []) → h.faults ≤ budget + life.base → IsPlain event f all h → IsTaken life budget log w event h
 
 -- ---- at the next
 

@@ -2,7 +2,7 @@
 -- origin whose connection breaks, which add nothing to the log (RFC 2616, section 8.1; the order is ours).
 --
 -- Where the premises come from: as in Waited and Awaited. What an event does is TakesEvent of `pp_proxy`, by which the cache is bounded; and this
--- life did not go astray by it. As many names may be noted with a tick as in Behind of `pp_joints_law`, which has no source yet.
+-- life did not go astray by it. As many names may be noted with a tick as in Behind of `pp_joints_law` (OverWaits).
 use Rattle.std.specs.Prelude.{◌≡◌, ◌≤◌, ◌++◌, ℕ, false, ◌∷◌}
 use Rattle.pp_cache.specs.Bounds.{IsBounded}
 use Rattle.pp_desk.specs.declared.desk.Desk.{Desk}

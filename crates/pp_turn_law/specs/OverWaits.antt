@@ -2,7 +2,7 @@
 -- of each row may be noted behind it (ours).
 --
 -- Where the premises come from: HasServedOn of Served is where the turn behind the wait leads, which Handled, Called and Served join; its log
--- goes on from the wait. Decisions and rounds note so few names (MayNote of `pp_given_law`), which is not joined yet.
+-- goes on from the wait. Decisions and rounds note so few names (MayNote of `pp_given_law`).
 use Rattle.std.specs.Prelude.{◌≡◌, ◌≤◌, ◌++◌, ℕ, length, take, [], ◌∷◌}
 use Rattle.pp_desk.specs.declared.desk.Desk.{Desk}
 use Rattle.pp_given_law.specs.MayNote.{most_names}

@@ -1,9 +1,10 @@
 -- From the end of a turn, over its wait, to where an origin is read: nothing came yet, its connection ended or broke, or bytes came (RFC 2616,
 -- sections 4.4, 6, 8.1 and 8.1.4; the order is ours).
 --
--- Where the premises come from: as in Called. Where bytes came it is asked what the law alone does not give of the moments of the read (Moments of
--- `pp_comes_law`); and behind them that what exchanges joined is told by its number, what ties the program to the law where rows come and go
--- (BehindBytes of `pp_joints_law`), and that of what is dropped as much is counted as came: these have no source yet.
+-- Where the premises come from: as in Called; that the cache may have as many chunks as are set is of each wait (StandsOn of Going). Where bytes came
+-- it is asked what the law alone does not give of the moments of the read (Moments of `pp_comes_law`); and behind them that what exchanges joined is
+-- told by its number, what ties the program to the law where rows come and go (BehindBytes of `pp_joints_law`), and that of what is dropped as much is
+-- counted as came: these have no source yet, and are the fields of BytesAreSupplied of Brought.
 use Rattle.std.specs.Prelude.{◌≡◌, ◌++◌, ℕ, [], ◌∷◌, Some}
 use Rattle.pp_comes_law.specs.Moments.{MayBringBeside}
 use Rattle.pp_comes_law.specs.Origins.{AreToldBehind, IsOfOrigin}
@@ -57,4 +58,4 @@ pub record IsReadOn (k : ℕ) (life : Life) (budget : ℕ) (log : Log) (w : Want
 
 abbrev pub OriginReadsAreHandled : Type 0
 OriginReadsAreHandled = (k : ℕ) (life : Life) (budget : ℕ) (log : Log) (w : Wants) (x : Standing) (f : Desk) (all : Log) (faults : ℕ) (y : Turning) (s : State) → IsOfOrigin k (awaiting x f all faults) → IsShortLog (log ++ Waits w ∷ []) → Calls life budget log w (Readable k) x f all faults y s
-    → MayNote (awaiting x f all faults).moving → ((woken : Desk) → Wakes k f woken → MayBringBeside k (at_desk woken (awaiting x f all faults)) y (event (owing (ReadOf k) k (rest_with w (ending s))))) → IsReadOn k life budget log w (awaiting x f all faults) y (rest_with w (ending s))
+    → MayNote (awaiting x f all faults).moving → x.turning.moving.desk.state.cache.size ≡ s.settings.critical → ((woken : Desk) → Wakes k f woken → MayBringBeside k (at_desk woken (awaiting x f all faults)) y (event (owing (ReadOf k) k (rest_with w (ending s))))) → IsReadOn k life budget log w (awaiting x f all faults) y (rest_with w (ending s))

@@ -5,7 +5,7 @@
 -- shows the law's state (`ShownOnesAreNumbered` of `pp_grown_law`), and from there on over each turn. At a wait a turn may end (HasEnded of
 -- `pp_rounds_law`).
 --
--- Not said: that the log of a turn has no word of the opening of a life.
+-- That the log of a turn has no word of the opening of a life is `steady` of TakesEvent of `pp_proxy`.
 use Rattle.std.specs.Prelude.{◌≡◌, Bool, true, false, not, List, ◌++◌}
 use Rattle.std.specs.List.{list_all}
 use Rattle.pp_grown_law.specs.Numbered.{AreNumbered}

@@ -11,16 +11,23 @@
 //! as much is counted as came (`StandsGiven` of `specs/Supplied.antt`); which numbers connections get, and how many names are noted
 //! (`specs/OverWaits.antt`); that what grew is noted where the keeping begins, and behind it nothing is to be kept up to the next event
 //! (`specs/Grown.antt`); who was read, and what is read into (`specs/Whole.antt`). Of the program alone: clients stand in the order of their numbers
-//! (`specs/Ordered.antt`), a life that went astray stays so (`specs/Straight.antt`), and the cache may have as many chunks as before
-//! (`specs/Sized.antt`).
+//! (`specs/Ordered.antt`), a life that went astray stays so (`specs/Straight.antt`), and the cache may have as many chunks as before, and so as
+//! many as the settings say (`specs/Sized.antt`).
 //!
 //! `specs/First.antt` has all of the first turn, from where a life listens to the second wait, with its event and how often the outside failed before it
 //! of `specs/Opening.antt`; `specs/Stopping.antt` all of the last: from its wait, over Stop (`specs/Stopped.antt`), to where the log may end.
-//! `specs/Exits.antt`: each turn has its event, and where it ended the log may end.
+//! `specs/Exits.antt`: each turn has its event, and where it ended the log may end. `specs/Turned.antt` has all turns, one behind the other, from where
+//! a life listens to where the log may end; so each event is taken, where what `specs/Brought.antt` still asks of the reads that bring bytes is there.
 //!
-//! Not said: what the bytes of a read rest on, and what is carried behind them.
+//! A life as one, from the log before it: `specs/Lives.antt`, where it serves, up to where the log may end, and `specs/Waking.antt`, whence it wakes;
+//! `specs/Ended.antt`, where it does not come to serve. `specs/Headline.antt` has what the laws say of the log behind it, and `specs/Running.antt` all of
+//! that as the clause of a function that runs the program.
 //!
-//! To the layer above: each is the clause of a function that does nothing. It is one part of the proof that the program obeys the law.
+//! Not said: what the bytes of a read of an origin rest on, and what is carried behind them. That is a premise of all turns, and of whole lives:
+//! `BytesAreSupplied` of `specs/Brought.antt`, a field for each of them.
+//!
+//! To the layer above: each is the clause of a function that does nothing, but for `run_beside_the_law`. It is one part of the proof that the
+//! program obeys the law.
 //!
 //! Takes no memory, and does nothing when the program runs.
 #![tactic(auto)]
@@ -33,15 +40,18 @@ mod going; // all of a turn
 mod growing; // what grew
 mod handling; // an event that is handled
 mod keeping; // memory and the disk
+mod living; // a whole life, and what its log means
 mod lost; // a chunk that could not be read back
 mod opening; // the first event
 mod over; // from one wait to the next
 mod reading; // an origin that is read
+mod running; // `run` beside the law
 mod serving; // decisions, rounds, and the end
 mod sized; // how large the cache may be
 mod staying; // a whole turn
 mod stopping; // at Stop
 mod straight; // the order of clients, and where a life did not go astray
+mod turned; // all turns of a life
 mod waiting; // to an event
 mod ways; // out of a wait, and out of a life
 
@@ -53,14 +63,19 @@ pub use going::turns_go_on;
 pub use growing::what_grew_is_kept;
 pub use handling::{calls_are_handled, loads_are_handled, silent_ones_are_handled};
 pub use keeping::handled_ones_go_to_decide;
+pub use living::{
+    early_ends_are_lawful, lives_wake, served_lives_are_lawful, served_lives_have_the_headline,
+};
 pub use lost::lost_ones_go_to_decide;
 pub use opening::{first_events_are_handled, openings_are_counted};
 pub use over::{names_have_room_behind_waits, origins_are_apart_again};
 pub use reading::origin_reads_are_handled;
+pub use running::run_beside_the_law;
 pub use serving::deciding_ones_serve;
 pub use sized::turns_keep_size;
 pub use staying::{next_waits_stand_beside, read_ones_stay_read};
 pub use stopping::stopped_ones_end;
 pub use straight::{astray_ones_stay_astray, clients_stay_ordered, straight_ones_were_straight};
+pub use turned::{events_are_taken, lives_go_on};
 pub use waiting::turns_wait;
 pub use ways::turns_have_events;

@@ -10,7 +10,7 @@ use Rattle.pp_cache_law.proofs.Alike.{held_of, instances_of}
 use Rattle.pp_cache_law.proofs.Numbers.{true_false}
 use Rattle.pp_cache_law.specs.Reads.{IsFound}
 use Rattle.pp_cache_law.specs.Tables.{ShowsTable}
-use Rattle.pp_turns_law.proofs.Following.{has_source, is_next}
+use Rattle.pp_turns_law.proofs.Follows.{has_source, is_next}
 use Rattle.pp_flow_law.specs.Tables.{AreGiven, Leaving}
 use Rattle.pp_law.specs.Lists.{has_number, is_some_with}
 use Rattle.pp_law.specs.Served.{furthest_read as furthest_by_law, is_brought_to as is_brought_by_law, is_past as is_past_by_law, read_at as read_by_law}
@@ -35,8 +35,8 @@ use Rattle.pp_seats_law.specs.Words.{ShowsNext}
 use Rattle.pp_state.specs.Bringing.{is_held}
 use Rattle.pp_state.specs.Readers.{furthest_read, is_far_ahead, is_past_read, next_at, read_at}
 use Rattle.pp_state.specs.declared.state.State.{State as Turn}
-use Rattle.pp_steps_law.proofs.Told.{told_of}
-use Rattle.pp_steps_law.specs.Told.{IsTold, IsToldBy}
+use Rattle.pp_states_law.proofs.Told.{told_of}
+use Rattle.pp_states_law.specs.Told.{IsTold, IsToldBy}
 use Rattle.pp_turns_law.proofs.Asleep.{silent_first}
 use Rattle.pp_turns_law.proofs.First.{above, IsShownAt, seat_shown}
 use Rattle.pp_turns_law.proofs.Reading.{same_id}

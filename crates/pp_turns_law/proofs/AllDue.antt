@@ -21,9 +21,9 @@ use Rattle.pp_state.specs.declared.state.State.{State as Turn}
 use Rattle.pp_world.specs.declared.note.Cause.{Cause}
 use Rattle.pp_world.specs.declared.note.Decision.{Decision}
 use Rattle.pp_world.specs.declared.note.Decision.TheVariants.{Refuse}
-use Rattle.pp_turns_law.proofs.Deciding.{decided}
+use Rattle.pp_turns_law.proofs.Decided.{decided}
 use Rattle.pp_turns_law.proofs.Drying.{dry}
-use Rattle.pp_turns_law.proofs.Following.{superseded}
+use Rattle.pp_turns_law.proofs.Follows.{superseded}
 use Rattle.pp_turns_law.proofs.Shares.{shared_same}
 use Rattle.pp_turns_law.proofs.Standing.{standing}
 use Rattle.pp_turns_law.proofs.WaitingFor.{waiting}

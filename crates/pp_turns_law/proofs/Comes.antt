@@ -31,9 +31,9 @@ use Rattle.pp_seats_law.specs.Fates.{aim_of}
 use Rattle.pp_state.specs.Bringing.{asks_by, asks_for, asks_for_in, brings, brings_by, filled, instance_of, is_to_come, serves_by}
 use Rattle.pp_take.specs.Deciding.{serves_next}
 use Rattle.pp_state.specs.Ends.{Parts}
-use Rattle.pp_steps_law.proofs.Told.{told_of}
-use Rattle.pp_steps_law.specs.Steps.{ShowsSteps}
-use Rattle.pp_steps_law.specs.Told.{IsToldBy}
+use Rattle.pp_states_law.proofs.Told.{told_of}
+use Rattle.pp_states_law.specs.Steps.{ShowsSteps}
+use Rattle.pp_states_law.specs.Told.{IsToldBy}
 use Rattle.pp_target.specs.Key.{text_of}
 use Rattle.pp_turns_law.proofs.AllCome.{any_alike}
 use Rattle.pp_turns_law.specs.Nexts.{IsNext}

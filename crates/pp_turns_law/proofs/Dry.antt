@@ -19,7 +19,7 @@ use Rattle.pp_seats_law.specs.Replies.{ShowsSaid}
 use Rattle.pp_seats_law.specs.Seats.{head_left}
 use Rattle.pp_due.specs.Due.{is_next_there}
 use Rattle.pp_text.specs.Bytes.{is_empty}
-use Rattle.pp_turns_law.proofs.Following.{none_some}
+use Rattle.pp_turns_law.proofs.Follows.{none_some}
 
 -- ---- its reply is past its head
 

@@ -35,7 +35,7 @@ use Rattle.pp_due.specs.OnDisk.{if_on_disk}
 use Rattle.pp_state.specs.declared.state.State.{State as Turn}
 use Rattle.pp_text.specs.Bytes.{is_empty}
 use Rattle.pp_turns_law.proofs.Dry.{and_false, at_body, dry_none, dry_some, empty_length, not_in_memory, said_there}
-use Rattle.pp_turns_law.proofs.Following.{going_seat, has_source, is_next, none_some}
+use Rattle.pp_turns_law.proofs.Follows.{going_seat, has_source, is_next, none_some}
 use Rattle.pp_turns_law.proofs.Offering.{offers}
 use Rattle.pp_turns_law.specs.Dues.{DryIsTheLaws}
 use Rattle.pp_turns_law.specs.Turns.{IsFollowing, ShowsTurn}

@@ -36,8 +36,8 @@ use Rattle.pp_seats_law.specs.Exchanges.{Binding, ShowsExchange}
 use Rattle.pp_states_law.proofs.Asked.{all_as, frames, itself}
 use Rattle.pp_due.specs.OnDisk.{Enters, IsBrought, kept_alone as kept_in_turn, with_kept}
 use Rattle.pp_state.specs.declared.state.State.{State as Turn}
-use Rattle.pp_steps_law.proofs.Told.{told_of}
-use Rattle.pp_steps_law.specs.Told.{AreTold, EachIsTold, IsTold, IsToldBy}
+use Rattle.pp_states_law.proofs.Told.{told_of}
+use Rattle.pp_states_law.specs.Told.{AreTold, EachIsTold, IsTold, IsToldBy}
 use Rattle.pp_store.specs.Kept.{Kept, KeptMap, kept_of as kept_in_store}
 use Rattle.pp_target.specs.Name.{name_of}
 use Rattle.pp_text.specs.Fields.{Field}

@@ -5,7 +5,7 @@ use Rattle.std.specs.Option.{option_and_then}
 use Rattle.std.proofs.lemmas.Bool.Decides.{nat_tests}
 use Rattle.pp_cache_law.proofs.Numbers.{is_same}
 use Rattle.pp_cache_law.specs.Kept.{AreAsKept}
-use Rattle.pp_turns_law.proofs.Following.{has_source}
+use Rattle.pp_turns_law.proofs.Follows.{has_source}
 use Rattle.pp_flow_law.specs.Tables.{AreGiven, Leaving}
 use Rattle.pp_law.specs.Deciding.{is_for_memory}
 use Rattle.pp_law.specs.Due.{Due, due_of as due_by_law, first_due}

@@ -61,7 +61,7 @@ use Rattle.pp_world.specs.declared.note.Decision.{Decision}
 use Rattle.pp_world.specs.declared.note.Decision.TheVariants.{Refuse}
 use Rattle.pp_turns_law.proofs.AllDue.{all_dues, cut_same, decision_same, refused_any}
 use Rattle.pp_turns_law.proofs.Brought.{closed}
-use Rattle.pp_turns_law.proofs.Deciding.{IsAskedAs, decide_with, fits_same, heard_as, kinds}
+use Rattle.pp_turns_law.proofs.Decided.{IsAskedAs, decide_with, fits_same, heard_as, kinds}
 use Rattle.pp_turns_law.proofs.Reading.{decidable, hidden, none_hidden, turn_hidden}
 use Rattle.pp_turns_law.proofs.Shares.{shared_same}
 use Rattle.pp_turns_law.specs.Rows.{IsKeptAs, IsReady, ShowsDisk}

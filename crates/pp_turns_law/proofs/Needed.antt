@@ -26,7 +26,7 @@ use Rattle.pp_seats.specs.declared.seat.Next.{Next as SeatNext}
 use Rattle.pp_seats_law.proofs.Nexts.{found_number}
 use Rattle.pp_state.specs.Bringing.{is_brought, is_held as is_held_in, need_of}
 use Rattle.pp_state.specs.Ends.{Parts}
-use Rattle.pp_steps_law.specs.Steps.{ShowsSteps}
+use Rattle.pp_states_law.specs.Steps.{ShowsSteps}
 use Rattle.pp_turns_law.proofs.Comes.{brought_of}
 use Rattle.pp_turns_law.proofs.Holes.{held_past, is_gap, is_hole}
 use Rattle.pp_turns_law.specs.Needs.{IsWithin, NeedsAreTheLaws}

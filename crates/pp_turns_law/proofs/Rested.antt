@@ -5,7 +5,7 @@ use Rattle.std.specs.Prelude.{slice_get, slice_set}
 use Rattle.pp_cache_law.proofs.Framing.{frames_of, the_same}
 use Rattle.pp_cache_law.proofs.Numbers.{is_same, some_is}
 use Rattle.pp_cache_law.proofs.PairLemmas.{count_mapped_same}
-use Rattle.pp_turns_law.proofs.Following.{none_some}
+use Rattle.pp_turns_law.proofs.Follows.{none_some}
 use Rattle.pp_turns_law.proofs.Shares.{shared_same}
 use Rattle.pp_turns_law.specs.Rows.{AreReady, IsReady}
 use Rattle.pp_turns_law.specs.Turns.{ShowsTurn}
@@ -37,8 +37,8 @@ use Rattle.pp_decide.specs.Sharing.{is_sharing, shared_ask}
 use Rattle.pp_state.specs.Ends.{AreInOrder, changed_at, numbers_of}
 use Rattle.pp_due.specs.Waits.{awaited_by, awaited_in, rested_seat, shared_from, shared_with, waiting_on}
 use Rattle.pp_state.specs.declared.state.State.{State as Turn}
-use Rattle.pp_steps_law.proofs.Places.{numbers_set}
-use Rattle.pp_steps_law.specs.Steps.{ShowsSteps, whole}
+use Rattle.pp_states_law.proofs.Places.{numbers_set}
+use Rattle.pp_states_law.specs.Steps.{ShowsSteps, whole}
 use Rattle.pp_turns_law.proofs.First.{IsShownAt, above, client_shown}
 use Rattle.pp_turns_law.proofs.Wanted.{same_length}
 use Rattle.pp_turns_law.proofs.Waiting.{shares, there_same}

@@ -26,8 +26,8 @@ use Rattle.pp_seats_law.specs.Fates.{aim_of}
 use Rattle.pp_seats_law.specs.Words.{ShowsNext}
 use Rattle.pp_state.specs.Unseen.{has_reader_near, is_kept, is_next_near, is_through, is_unseen, is_worth_keeping}
 use Rattle.pp_turns_law.proofs.Comes.{shown_as}
-use Rattle.pp_steps_law.proofs.Told.{told_of}
-use Rattle.pp_steps_law.specs.Told.{IsToldBy}
+use Rattle.pp_states_law.proofs.Told.{told_of}
+use Rattle.pp_states_law.specs.Told.{IsToldBy}
 use Rattle.pp_turns_law.specs.Unseen.{AreFollowing, IsCounted, UnseenIsTheLaws}
 
 -- ---- a reader

@@ -4,7 +4,7 @@ use Rattle.std.specs.List.{list_any}
 use Rattle.pp_turns_law.proofs.AllCome.{any_alike}
 use Rattle.pp_turns_law.proofs.Comes.{brought_of}
 use Rattle.pp_turns_law.proofs.Drying.{dry}
-use Rattle.pp_turns_law.proofs.Following.{has_source, is_next, none_some}
+use Rattle.pp_turns_law.proofs.Follows.{has_source, is_next, none_some}
 use Rattle.pp_turns_law.proofs.Shares.{shared_same}
 use Rattle.pp_turns_law.proofs.WaitingFor.{waiting}
 use Rattle.pp_turns_law.specs.Rows.{IsReady}

@@ -29,7 +29,7 @@ use Rattle.pp_state.proofs.SeatsLemmas.{found-at}
 use Rattle.pp_due.specs.Due.{is_dry}
 use Rattle.pp_state.specs.Ends.{AreInOrder, numbers_of}
 use Rattle.pp_state.specs.declared.state.State.{State as Turn}
-use Rattle.pp_steps_law.proofs.Places.{at_place}
+use Rattle.pp_states_law.proofs.Places.{at_place}
 use Rattle.pp_text.specs.Bytes.{is_empty}
 use Rattle.pp_turns_law.proofs.Asleep.{silent_first}
 use Rattle.pp_turns_law.proofs.Brought.{part_by}

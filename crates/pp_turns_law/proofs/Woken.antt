@@ -12,8 +12,8 @@ use Rattle.pp_states_law.proofs.Waited.{renewals}
 use Rattle.pp_state.specs.Ends.{AreInOrder, Parts, numbers_of, parts}
 use Rattle.pp_due.specs.Waits.{is_waiting, woken_by, woken_seat}
 use Rattle.pp_state.specs.declared.state.State.{State as Turn}
-use Rattle.pp_steps_law.proofs.Told.{told_next}
-use Rattle.pp_steps_law.specs.Steps.{ShowsSteps, whole}
+use Rattle.pp_states_law.proofs.Told.{told_next}
+use Rattle.pp_states_law.specs.Steps.{ShowsSteps, whole}
 use Rattle.pp_turns_law.proofs.Waiting.{waits_on}
 use Rattle.pp_turns_law.specs.Marks.{HasSeats, TicksAreTheLaws}
 

@@ -6,7 +6,7 @@ use Rattle.pp_law.specs.Table.{Next, instance}
 use Rattle.pp_objects.specs.Instances.{is_there}
 use Rattle.pp_seats.specs.declared.seat.Next.{Next as SeatNext}
 use Rattle.pp_state.specs.Ends.{Parts}
-use Rattle.pp_steps_law.specs.Steps.{OfSteps}
+use Rattle.pp_states_law.specs.Steps.{OfSteps}
 
 -- of an instance that is there
 pub record IsNext (number : ℕ → ℕ) (m : Memory) (s : State) (x : SeatNext) (n : Next) : Type 0 where

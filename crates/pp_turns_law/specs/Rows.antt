@@ -20,7 +20,7 @@ use Rattle.pp_seats_law.specs.Words.{HasSource}
 use Rattle.pp_due.specs.Entering.{Comes}
 use Rattle.pp_due.specs.OnDisk.{kept_alone as kept_in_turn}
 use Rattle.pp_state.specs.declared.state.State.{State as Turn}
-use Rattle.pp_steps_law.specs.Told.{IsTold}
+use Rattle.pp_states_law.specs.Told.{IsTold}
 use Rattle.pp_store.specs.Kept.{Kept, KeptMap, kept_of as kept_in_store}
 use Rattle.pp_target.specs.Name.{name_of}
 

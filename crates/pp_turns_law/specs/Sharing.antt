@@ -4,7 +4,7 @@ use Rattle.std.specs.List.{filter_map, find, reduce}
 use Rattle.pp_law.specs.Lists.{Bytes}
 use Rattle.pp_law.specs.Sharing.{is_awaited as is_awaited_by, is_shared as is_shared_by}
 use Rattle.pp_decide.specs.Sharing.{is_awaited, shared_number}
-use Rattle.pp_steps_law.specs.Steps.{OfSteps}
+use Rattle.pp_states_law.specs.Steps.{OfSteps}
 
 -- of those that ask for the whole of a key, or check it, and whose answer has not come, the one that began first
 abbrev pub SharedAsksAreTheLaws : Type 0

@@ -6,7 +6,7 @@ use Rattle.pp_law.specs.Table.{instance, is_span_held as is_span_held_by}
 use Rattle.pp_objects.specs.Instances.{is_there}
 use Rattle.pp_objects.specs.declared.id.ObjectId.{ObjectId}
 use Rattle.pp_state.specs.Bringing.{is_span_held}
-use Rattle.pp_steps_law.specs.Steps.{OfSteps}
+use Rattle.pp_states_law.specs.Steps.{OfSteps}
 
 -- of the body of an instance that is there
 abbrev pub HeldSpansAreTheLaws : Type 0

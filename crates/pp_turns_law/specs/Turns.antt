@@ -19,7 +19,7 @@ use Rattle.pp_seats_law.specs.Dues.{AreApart}
 use Rattle.pp_seats_law.specs.Seats.{ShowsSeat}
 use Rattle.pp_state.specs.Ends.{parts}
 use Rattle.pp_state.specs.declared.state.State.{State as Turn}
-use Rattle.pp_steps_law.specs.Steps.{ShowsSteps}
+use Rattle.pp_states_law.specs.Steps.{ShowsSteps}
 
 -- what the steps of the turn change stands for the law's, and so does what is set, and what the turn knows of the clock; the cache is
 -- bounded, as each is

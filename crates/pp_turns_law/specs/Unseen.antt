@@ -13,7 +13,7 @@ use Rattle.pp_seats.specs.Follows.{next_of}
 use Rattle.pp_seats.specs.declared.seat.Seat.{Seat}
 use Rattle.pp_seats_law.specs.Words.{HasSource}
 use Rattle.pp_state.specs.Unseen.{is_nobodys}
-use Rattle.pp_steps_law.specs.Steps.{OfSteps}
+use Rattle.pp_states_law.specs.Steps.{OfSteps}
 
 -- what each of the clients that go on follows is there
 abbrev pub AreFollowing : Memory → State → List Seat → List Client → Type 0

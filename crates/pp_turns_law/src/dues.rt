@@ -19,7 +19,7 @@ pub fn superseded_is_the_laws()
 {}
 
 /// What is decided of a request.
-pub fn decisions_are_the_laws()
+pub fn requests_are_decided_as_the_laws()
     ensures decided { DecidesAsTheLaw }
 {}
 

@@ -16,7 +16,7 @@ use Rattle.pp_seats.specs.Seats.{is_silent}
 use Rattle.pp_seats.specs.declared.seat.Seat.{Seat}
 use Rattle.pp_state.specs.Ends.{Parts, parts}
 use Rattle.pp_state.specs.declared.state.State.{State as Turn}
-use Rattle.pp_steps_law.specs.Steps.{ShowsSteps}
+use Rattle.pp_states_law.specs.Steps.{ShowsSteps}
 use Rattle.pp_turns_law.specs.Rows.{AreReady}
 use Rattle.pp_turns_law.specs.Turns.{ShowsTurn}
 use Rattle.pp_waits_law.specs.Rests.{StandsToWait, StandsLoud, WantsLeaveTurns}

@@ -8,7 +8,7 @@ use Rattle.pp_seats.specs.declared.seat.Seat.{Seat}
 use Rattle.pp_seats.specs.declared.seat.Shared.{Shared}
 use Rattle.pp_state.specs.Ends.{changed_at, numbers_of}
 use Rattle.pp_state.specs.declared.state.State.{State as Turn}
-use Rattle.pp_steps_law.proofs.Places.{numbers_set}
+use Rattle.pp_states_law.proofs.Places.{numbers_set}
 use Rattle.pp_turns_law.specs.Marks.{all_rested}
 use Rattle.pp_wants.specs.Rests.{all_waiting, rested_at}
 

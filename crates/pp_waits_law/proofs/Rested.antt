@@ -29,8 +29,8 @@ use Rattle.pp_states_law.proofs.Framed.{states}
 use Rattle.pp_states_law.proofs.Waited.{restings}
 use Rattle.pp_states_law.specs.States.{ShowsState}
 use Rattle.pp_states_law.specs.Waiting.{rested_peer as rested_as}
-use Rattle.pp_steps_law.specs.Steps.{ShowsSteps, whole}
-use Rattle.pp_steps_law.specs.Told.{AreTold}
+use Rattle.pp_states_law.specs.Steps.{ShowsSteps, whole}
+use Rattle.pp_states_law.specs.Told.{AreTold}
 use Rattle.pp_turns_law.proofs.First.{IsShownAt, seat_shown}
 use Rattle.pp_turns_law.proofs.Rested.{rests_all}
 use Rattle.pp_turns_law.specs.Marks.{AreLoud, all_rested, with_rested}

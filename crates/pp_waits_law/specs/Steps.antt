@@ -1,6 +1,6 @@
 -- Amid a turn nobody falls asleep: of each step (ours).
 --
--- Where the premises come from: clients stand in the order of their numbers (`order` of `ShowsSteps`, of pp_steps_law), and those that are
+-- Where the premises come from: clients stand in the order of their numbers (`order` of `ShowsSteps`, of pp_states_law), and those that are
 -- looked at rise (`AreAwake` of pp_turns_law). There is room to look at 257 clients, one more than there may be, and for one read, from the
 -- opening on (`HasRoom` and `HasBuffers` of pp_desk); behind a client that comes `IsSeated` of pp_proxy has it.
 use Rattle.std.specs.Prelude.{◌<◌, ◌≤◌, ℕ, List, length, vec_capacity, Option}

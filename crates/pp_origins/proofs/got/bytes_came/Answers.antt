@@ -10,7 +10,7 @@ pub loop-step-preserved : goal.loop-step-preserved
 loop-step-preserved c =
     let old : Desk = c.args.desk.now in
     let mid : Desk = c.loop-step.desk in
-    let new : Desk = c.step_came.new.desk in
+    let new : Desk = c.step_came-step.new.desk in
     let before = c.loop-step.invariant in
     let step = c.in-Some.ensures in
     let shelf = c.args.shelf.now in
@@ -25,7 +25,7 @@ loop-step-preserved c =
       is = λ seated room.
           one_more_got 65600 c.loop-step._step shelf k (Some (remaining (take n bytes) [])) (remaining (slice_range bytes at n) mid.«data».items) (Some (remaining (slice_range bytes next n) new.«data».items)) (both old) (both mid) (both new) less (before.is seated room)
           (subst (λ (xs : List ℕ). IsStepOn (going_on (find (is_number k) mid.peers)) shelf k (remaining (slice_range xs at n) mid.«data».items) (both mid) (both new) (Some (remaining (slice_range xs next n) new.«data».items))) same
-          (step.is (still_seated old.state mid.state before.numbers seated) (before.fits room)));
+          (step.is (still_seated old.state mid.state before.numbers seated) c.bounds.ensures (before.fits room)));
       fits = λ room. step.fits (before.fits room);
       within = step.within;
       numbers = step.numbers ∙ before.numbers;
@@ -45,7 +45,7 @@ pub returns-in-None-clause-is : goal.returns-in-None-clause-is
 returns-in-None-clause-is c = λ seated room.
     let old : Desk = c.args.desk.now in
     let mid : Desk = c.loop-step.desk in
-    let new : Desk = c.step_came.new.desk in
+    let new : Desk = c.step_came-step.new.desk in
     let before = c.loop-step.invariant in
     let shelf = c.args.shelf.now in
     let k = c.args.k in
@@ -58,4 +58,4 @@ returns-in-None-clause-is c = λ seated room.
     all_got 65600 (c.loop-step._step + 1) shelf k first (both old) (both new)
     (one_more_got 65600 c.loop-step._step shelf k first (remaining (slice_range bytes at n) mid.«data».items) None (both old) (both mid) (both new) less (before.is seated room)
     (subst (λ (xs : List ℕ). IsStepOn (going_on (find (is_number k) mid.peers)) shelf k (remaining (slice_range xs at n) mid.«data».items) (both mid) (both new) None) same
-    (c.in-None.ensures.is (still_seated old.state mid.state before.numbers seated) (before.fits room))))
+    (c.in-None.ensures.is (still_seated old.state mid.state before.numbers seated) c.bounds.ensures (before.fits room))))

@@ -20,5 +20,6 @@ returns-clause-is c = λ seated.
     subst (λ (o : Option ℕ). HeadCameFor o shelf k (both old) (both c.answer.new.desk)) (sym first) (record {
       beside = beside;
       row = row;
+      bounded = c.bounds.ensures;
       answers = c.answer.ensures.is (still_seated old.state beside (beside_numbers shelf (key_of number old.state.flow) old.state beside row) seated);
     })

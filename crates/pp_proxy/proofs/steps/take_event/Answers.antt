@@ -1,4 +1,4 @@
-use Rattle.std.proofs.Common.{◌∙◌, refl, sym, subst, ℕ, List}
+use Rattle.std.proofs.Common.{◌∙◌, refl, sym, subst, le_trans, ℕ, List}
 use Rattle.pp_desk.specs.declared.desk.Desk.{Desk}
 use Rattle.pp_proxy.proofs.LeavingLemmas.{leaves_on, left_numbers, regains}
 use Rattle.pp_proxy.specs.Moving.{moving, turning}
@@ -41,5 +41,7 @@ returns-clause-is g c =
       kept_bounded = c.bounds-3.ensures;
       settles = c.settle.ensures.is;
       settles_shelf = refl;
+      steady = steady_then_quiet (steady_then (steady_then_quiet c.handle.ensures.steady c.leave_memory.ensures.quiet) c.keep.ensures.steady) c.settle.ensures.quiet;
+      count = le_trans (le_trans (le_trans c.handle.ensures.faults c.leave_memory.ensures.faults) c.keep.ensures.faults) c.settle.ensures.faults;
       bounded = c.bounds-4.ensures;
     }

@@ -1,6 +1,7 @@
-use Rattle.std.proofs.Common.{ap, is_some, refl, sym, map, string_bytes, inl, Some}
+use Rattle.std.proofs.Common.{ap, is_some, sym, map, string_bytes, inl}
+use Rattle.pp_run.proofs.Breaking.{asked_breaks}
 use Rattle.pp_run.proofs.Folders.{fresh_later}
-use Rattle.pp_run.proofs.Living.{asked_named, none_served}
+use Rattle.pp_run.proofs.Living.{asked_named}
 use Rattle.pp_run.proofs.Starting.{ends_later, unread}
 use Rattle.pp_run.proofs.program.read_file.Goals as goal
 
@@ -28,3 +29,8 @@ returns-in-Ok-clause-served g c = λ served. record {
   by = record { top = c.in-Ok.ensures.top; count = c.in-Ok.ensures.faults };
   read = rw c.as_slice.ensures at (c.start.ensures.read served);
 }
+
+pub returns-in-Ok-clause-breaks : goal.returns-in-Ok-clause-breaks
+returns-in-Ok-clause-breaks g c =
+    asked_breaks (map string_bytes c.args.words.now) _ c.start.result _ _ _ c.requires.reads (sym (ap is_some c.requires.named))
+    (asked_named (map string_bytes c.args.words.now) c.args.name.now _ c.requires.named c.in-Ok.ensures.told) c.in-Ok.ensures.faults (rw c.as_slice.ensures at (c.start.ensures.breaks))

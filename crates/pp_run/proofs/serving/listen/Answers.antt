@@ -1,7 +1,9 @@
 use Rattle.std.proofs.Common.{◌≡◌, true, false, subst, sym}
 use Rattle.pp_world.proofs.CallLemmas.{rises_earlier}
+use Rattle.pp_run.proofs.Breaking.{served_shuts}
 use Rattle.pp_run.proofs.Folders.{holds_listened, listens_and_goes, may_not, served_listens}
 use Rattle.pp_run.specs.Exits.{ListensAs, served_as}
+use Rattle.pp_run.specs.Lives.{outside}
 use Rattle.pp_run.specs.declared.ending.Exit.{Exit}
 use Rattle.pp_run.proofs.serving.listen.Goals as goal
 
@@ -25,9 +27,14 @@ returns-in-Ok g c =
         turns = c.serve.ensures.turns;
         exit_is = exit;
       };
+      shuts = served_shuts astray c.args.door.now.port c.served.result (outside old (g.W.Logged.top c.args.world.now) before) (outside new (g.W.Logged.top c.serve.new.world) now) exit;
     }
 
 pub returns-in-Err : goal.returns-in-Err
 returns-in-Err g c =
     let printed = rw c.no_listener_line.ensures at (rw c.as_slice.ensures.value at (c.print.ensures.told)) in
-    record { turns = λ served. let bad : false ≡ true = served in absurd (cc); told = (may_not c.args.door.now.port c.in-Err.ensures.told printed, rises_earlier _ _ _ _ printed c.in-Err.ensures.cause c.print.ensures.faults) }
+    record {
+      turns = λ served. let bad : false ≡ true = served in absurd (cc);
+      told = (may_not c.args.door.now.port c.in-Err.ensures.told printed, rises_earlier _ _ _ _ printed c.in-Err.ensures.cause c.print.ensures.faults);
+      shuts = (outside _ (g.W.Logged.top c.listen.new.self) _, record { told = c.in-Err.ensures.told; rises = c.in-Err.ensures.cause }, record { told = printed; count = c.print.ensures.faults });
+    }

@@ -1,5 +1,7 @@
-use Rattle.std.proofs.Common.{◌≡◌, true, false}
+use Rattle.std.proofs.Common.{◌≡◌, inr, true, false}
+use Rattle.pp_run.proofs.Breaking.{opened_breaks}
 use Rattle.pp_run.proofs.Folders.{no_disk, opens_then, wants_memory}
+use Rattle.pp_run.specs.Lives.{outside}
 use Rattle.pp_run.proofs.serving.open_folder.Goals as goal
 
 pub returns-in-Ok : goal.returns-in-Ok
@@ -21,6 +23,13 @@ returns-in-Ok g c = record {
     };
     goes = rw c.door_of.ensures.port at (c.listen.ensures.turns served);
   };
+  breaks = opened_breaks c.args.conf.now.root c.args.conf.now.port c.args.conf.now.max_turns _ _ _ _ c.listen.result _ _ _ _
+      (record {
+        opens = rw c.as_slice.ensures at (c.in-Ok.ensures.opens);
+        recovers = rw c.as_slice.ensures at (c.in-Ok.ensures.recovers);
+        counted = c.in-Ok.ensures.counted;
+        by = record { top = c.in-Ok.ensures.top; count = c.in-Ok.ensures.faults };
+      }) (rw c.door_of.ensures.port at (c.listen.ensures.told)) (rw c.door_of.ensures.port at (c.listen.ensures.shuts));
 }
 
 pub returns-in-Err-DiskFault : goal.returns-in-Err-DiskFault
@@ -31,6 +40,7 @@ returns-in-Err-DiskFault g c =
           (rw c.as_slice.ensures at (rw failed.field-0-is at (failed.ensures.opens))) (rw failed.field-0-is at (failed.ensures.cause))
           (rw c.as_bytes.ensures.value at (c.print.ensures.told)) c.print.ensures.faults;
       lived = λ served. let bad : false ≡ true = served in absurd (cc);
+      breaks = (outside _ (g.W.Logged.top c.open.new.disk) _, record { recovers = rw c.as_slice.ensures at (rw failed.field-0-is at (failed.ensures.recovers)); counted = failed.ensures.counted }, record { told = rw c.as_bytes.ensures.value at (c.print.ensures.told); count = c.print.ensures.faults });
     }
 
 pub returns-in-Err-OutOfMemory : goal.returns-in-Err-OutOfMemory
@@ -41,4 +51,5 @@ returns-in-Err-OutOfMemory g c =
           (rw c.as_slice.ensures at (rw refused.field-0-is at (refused.ensures.opens)))
           (rw c.as_bytes-in-Err-OutOfMemory.ensures.value at (c.print-in-Err-OutOfMemory.ensures.told));
       lived = λ served. let bad : false ≡ true = served in absurd (cc);
+      breaks = inr (outside _ (g.W.Logged.top c.open.new.disk) _, record { recovers = rw c.as_slice.ensures at (rw refused.field-0-is at (refused.ensures.recovers)); counted = refused.ensures.counted }, record { told = rw c.as_bytes-in-Err-OutOfMemory.ensures.value at (c.print-in-Err-OutOfMemory.ensures.told); count = c.print-in-Err-OutOfMemory.ensures.faults });
     }

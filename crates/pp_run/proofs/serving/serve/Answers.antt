@@ -1,5 +1,5 @@
 use Rattle.std.proofs.Common.{arith}
-use Rattle.pp_run.proofs.TurnByTurn.{all_turns, goes_none, goes_stopped, goes_then, goes_whole, last_turn, linked_none, no_turn, one_more_turn}
+use Rattle.pp_run.proofs.TurnByTurn.{all_turns, goes_none, goes_stopped, goes_then, last_turn, linked_none, no_turn, one_more_turn}
 use Rattle.pp_run.proofs.serving.serve.Goals as goal
 
 pub loop-turn-init : goal.loop-turn-init

@@ -1,4 +1,4 @@
-use Rattle.pp_turns_law.proofs.Following.{superseded}
+use Rattle.pp_turns_law.proofs.Follows.{superseded}
 use Rattle.pp_turns_law.proofs.dues.superseded_is_the_laws.Goals as goal
 
 pub returns : goal.returns

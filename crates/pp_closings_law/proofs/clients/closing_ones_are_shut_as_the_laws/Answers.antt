@@ -1,5 +1,0 @@
-use Rattle.pp_closings_law.proofs.Shutting.{shuts}
-use Rattle.pp_closings_law.proofs.clients.closing_ones_are_shut_as_the_laws.Goals as goal
-
-pub returns : goal.returns
-returns c = record { shut = shuts }

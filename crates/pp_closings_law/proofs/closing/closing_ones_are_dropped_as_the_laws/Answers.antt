@@ -1,5 +1,0 @@
-use Rattle.pp_closings_law.proofs.Noted.{closing_drop}
-use Rattle.pp_closings_law.proofs.closing.closing_ones_are_dropped_as_the_laws.Goals as goal
-
-pub returns : goal.returns
-returns c = record { dropped = closing_drop }

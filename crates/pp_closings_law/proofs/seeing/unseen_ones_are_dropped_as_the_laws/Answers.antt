@@ -1,6 +1,0 @@
-use Rattle.pp_closings_law.proofs.AllSeen.{all_drop}
-use Rattle.pp_closings_law.proofs.Seen.{drops_on}
-use Rattle.pp_closings_law.proofs.seeing.unseen_ones_are_dropped_as_the_laws.Goals as goal
-
-pub returns : goal.returns
-returns c = record { drops = drops_on; unseen = all_drop }

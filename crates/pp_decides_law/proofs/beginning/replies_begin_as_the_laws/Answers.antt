@@ -1,5 +1,0 @@
-use Rattle.pp_decides_law.proofs.Walk.{begins}
-use Rattle.pp_decides_law.proofs.beginning.replies_begin_as_the_laws.Goals as goal
-
-pub returns : goal.returns
-returns c = record { all = begins }

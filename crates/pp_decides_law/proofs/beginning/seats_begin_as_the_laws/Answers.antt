@@ -1,5 +1,0 @@
-use Rattle.pp_decides_law.proofs.Seats.{begins_at}
-use Rattle.pp_decides_law.proofs.beginning.seats_begin_as_the_laws.Goals as goal
-
-pub returns : goal.returns
-returns c = record { seats = begins_at }

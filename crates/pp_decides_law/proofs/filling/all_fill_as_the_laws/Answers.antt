@@ -1,5 +1,0 @@
-use Rattle.pp_decides_law.proofs.All.{fills_all}
-use Rattle.pp_decides_law.proofs.filling.all_fill_as_the_laws.Goals as goal
-
-pub returns : goal.returns
-returns c = record { all = fills_all }

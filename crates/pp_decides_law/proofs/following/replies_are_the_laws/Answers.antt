@@ -1,5 +1,0 @@
-use Rattle.pp_decides_law.proofs.Followed.{replies}
-use Rattle.pp_decides_law.proofs.following.replies_are_the_laws.Goals as goal
-
-pub returns : goal.returns
-returns c = record { follows = replies }

@@ -1,6 +1,0 @@
-use Rattle.pp_steps_law.proofs.Closed.{closes}
-use Rattle.pp_steps_law.proofs.Lost.{places_lost}
-use Rattle.pp_steps_law.proofs.losing.losses_are_the_laws.Goals as goal
-
-pub returns : goal.returns
-returns c = record { losses = places_lost; lines = closes }

@@ -1,5 +1,0 @@
-pub mod Charges
-pub mod Lines
-pub mod Losses
-pub mod Steps
-pub mod Told
