@@ -14,9 +14,10 @@
 //! Behind what came replies that are over end, and attempts count anew. `Brings` says what each piece of the bytes rests on, beside what a turn
 //! shows, `Goes` that who is answered can go on to the next request, and `Stays` what a read leaves as it was of clients, of connections, and of
 //! what the turn knows beside them. `Keys` has of each event that memory was given for the key of each head that was read, in a life that did
-//! not go astray by it.
+//! not go astray by it. `Lives` has that lives are only given, and who is followed stays; and `Told`, with `Heads`, that what exchanges of clients
+//! joined is told by its number.
 //!
-//! Not said: a head to the ask of a follower; and which replies end behind a read, which is in
+//! Not said: what they joined behind the head to the ask of a follower; and which replies end behind a read, which is in
 //! `pp_endings_law`. Nor is anything said of a turn in which memory was refused for a row.
 //!
 //! To the layer above: each is the clause of a function that does nothing. It is one part of the proof that the program obeys the law. The
