@@ -18,7 +18,6 @@ HEADS = {
     "pp_rows": "Worked logs of `transcripts/`, each with the law's verdict, which the check computes.",
     "pp_rows_long": "Worked logs of thousands of happenings, each with the law's verdict, which the check computes.",
     "pp_rows_changes": "Lawful logs with one happening deleted, doubled or swapped, each with the law's verdict.",
-    "pp_rows_lives": "Whole lives of the proxy, as `pp_seeds` prints them, which the check finds lawful.",
 }
 LONG = 5000  # a file that has a log of so many happenings stands in pp_rows_long
 
@@ -45,7 +44,7 @@ def by_file(logs):
 
 def of_repository():
     """Each file of each crate of rows."""
-    rules, folder, lives = rules_of(), Path("transcripts"), Path("crates/pp_seeds/stdout")
+    rules, folder = rules_of(), Path("transcripts")
     found = {"pp_rows": {}, "pp_rows_long": {}, "pp_rows_changes": {}}
     for file, logs in by_file(reader.read([TOP / folder])).items():
         # A log that is there to be changed stands with its changes.
@@ -53,7 +52,6 @@ def of_repository():
         plain = "pp_rows_long" if max(len(log.happenings) for log in logs) >= LONG else "pp_rows"
         found[plain] |= rows.modules([log for log in logs if log.line not in changed], folder / file, rules)
         found["pp_rows_changes"] |= rows.modules([log for log in logs if log.line in changed], folder / file, rules)
-    found["pp_rows_lives"] = rows.modules(reader.read([TOP / lives]), lives, rules, "Lives")
     found[PIECES] = {"Forced": forcing.module(TOP / "crates")}
     return {file: text for name, modules in found.items() for file, text in crate(name, modules, HEADS[name]).items()}
 

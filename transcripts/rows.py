@@ -94,8 +94,8 @@ def module(logs, head, rules):
     return made.text(f"-- {head}\n", rules)
 
 
-def modules(logs, source, rules, stem=None):
-    """The modules of a file's logs, by their names. `source` says where the file stands; they are named after it, or as told."""
-    stem = stem or "".join(part.capitalize() for part in source.stem.split("_"))
+def modules(logs, source, rules):
+    """The modules of a file's logs, by their names. `source` says where the file stands; they are named after it."""
+    stem = "".join(part.capitalize() for part in source.stem.split("_"))
     head = f"The verdicts of {source}, written by transcripts/make_rows."
     return {name: module(group, head, rules) for name, group in groups(logs, stem).items()}

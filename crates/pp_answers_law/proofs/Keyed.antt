@@ -147,7 +147,6 @@ module _ (number : ℕ → ℕ) (name : Bytes) (l : Leaving) (peers : List Peer)
     target = target.target;
     key = key;
     place = placed_at e.key x.errand.place.path (plain target.target e.key key).path (ap (λ (text : Bytes). drop x.errand.place.path text) (sym shown.text_key) ∙ ap (λ (k : Key). k.path) shown.parts);
-    short = may.short changes;
   }
 
 -- ---- a life that went astray stays so

@@ -22,7 +22,7 @@ use Rattle.pp_states_law.proofs.Charged.{same_entry}
 use Rattle.pp_states_law.specs.Steps.{ShowsSteps}
 use Rattle.pp_target.specs.Key.{Key, key_at, place_of, port_text, text_of}
 use Rattle.pp_answers_law.specs.Naming.{named_at}
-use Rattle.pp_answers_law.specs.Outdates.{AreShort, IsKeyed, PassedHeadsAreTheLaws, WereRead, WereReadIf, WereReadOf}
+use Rattle.pp_answers_law.specs.Outdates.{IsKeyed, PassedHeadsAreTheLaws, WereRead, WereReadIf, WereReadOf}
 use Rattle.pp_answers_law.proofs.Dropped.{there_too}
 use Rattle.pp_answers_law.proofs.Others.{asks_cleared}
 use Rattle.pp_answers_law.proofs.Relayed.{relays}
@@ -75,14 +75,14 @@ pub each_none : (key : Key) (s : State) → clear_each key [] s ≡ s
 unfolding clear_each
 each_none key s = refl
 
-each_left : (number : ℕ → ℕ) (name : Bytes) (l : Leaving) (peers : List Peer) (n : ℕ) (x : Entry) (e : Exchange) (target : Bytes) (texts : List Bytes) (p new : Parts) (s : State) → key_at target ≡ Ok e.key → AreShort (site_of e.key) texts
+each_left : (number : ℕ → ℕ) (name : Bytes) (l : Leaving) (peers : List Peer) (n : ℕ) (x : Entry) (e : Exchange) (target : Bytes) (texts : List Bytes) (p new : Parts) (s : State) → key_at target ≡ Ok e.key
     → (cleared : ClearsEach (site_of e.key) texts p new) → WereRead (site_of e.key) texts p new cleared → IsLeft number name l peers p s n x e → IsLeft number name l peers new (clear_each e.key texts s) n x e
-each_left number name l peers n x e target [] p new s key short cleared were left =
+each_left number name l peers n x e target [] p new s key cleared were left =
     subst (λ (q : Parts). IsLeft number name l peers q (clear_each e.key [] s) n x e) (sym cleared) (subst (λ (t : State). IsLeft number name l peers p t n x e) (sym (each_none e.key s)) left)
-each_left number name l peers n x e target (text ∷ texts) p new s key short cleared were left =
+each_left number name l peers n x e target (text ∷ texts) p new s key cleared were left =
     subst (λ (t : State). IsLeft number name l peers new t n x e) (sym (each_first e.key text texts s))
-    (each_left number name l peers n x e target texts cleared.0 new (clear_named e.key text s) key short.1 cleared.2 were.1
-    (subst (λ (q : Parts). IsLeft number name l peers q (clear_named e.key text s) n x e) (sym (cleared.1.cleared ∙ ap (λ (b : Bool). astray_where (not b) (cleared_of (named_as b (site_of e.key) text) p)) were.0 ∙ ap (λ (o : Option Bytes). cleared_of o p) (names_same e.key target text key short.0)))
+    (each_left number name l peers n x e target texts cleared.0 new (clear_named e.key text s) key cleared.2 were.1
+    (subst (λ (q : Parts). IsLeft number name l peers q (clear_named e.key text s) n x e) (sym (cleared.1.cleared ∙ ap (λ (b : Bool). astray_where (not b) (cleared_of (named_as b (site_of e.key) text) p)) were.0 ∙ ap (λ (o : Option Bytes). cleared_of o p) (names_same e.key target text key)))
     (subst (λ (t : State). IsLeft number name l peers (cleared_of (named_at e.key text) p) t n x e) (sym (named_is e.key text s))
     (left_of number name l peers p s n x e (named_at e.key text) left))))
 
@@ -116,7 +116,7 @@ invalidated_with number name l peers p between s n x e head true left keyed it w
     at_site site is cleared read =
         let both : (c : ClearsEach (site_of e.key) (places_named head) (cleared_key (key_of e) p) between) × WereRead (site_of e.key) (places_named head) (cleared_key (key_of e) p) between c =
         subst (λ (u : Bytes). (c : ClearsEach u (places_named head) (cleared_key (key_of e) p) between) × WereRead u (places_named head) (cleared_key (key_of e) p) between c) is (cleared, read) in
-        each_left number name l peers n x e one.target (places_named head) (cleared_key (key_of e) p) between (clear (key_of e) s) one.key one.short both.0 both.1 first
+        each_left number name l peers n x e one.target (places_named head) (cleared_key (key_of e) p) between (clear (key_of e) s) one.key both.0 both.1 first
 
     by : (o : Option Bytes) (path : ℕ) → o ≡ Some (key_of e) → path ≡ (place_of e.key).path → (rows : InvalidatesRows o path head p between) → WereReadOf o path head p between rows → IsLeft number name l peers between (clear_each e.key (law_places head) (clear (key_of e) s)) n x e
     by None path is at rows read = absurd (let none : None ≡ Some (key_of e) = is in cc none)

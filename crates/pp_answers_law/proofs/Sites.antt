@@ -1,5 +1,5 @@
 -- A text names the same key of a site in the program and in the law.
-use Rattle.std.proofs.Common.{◌≡◌, ◌≤◌, ◌<◌, ◌+◌, ◌^◌, refl, sym, subst, ap, ap₂, ◌∙◌, ℕ, suc, Bool, true, false, not, ◌==◌, ◌&&◌, cond, length, take, List, [], ◌∷◌, ◌++◌, append_assoc, codes, nat_le, Some, None, Option, Result, Ok, Err, arith}
+use Rattle.std.proofs.Common.{◌≡◌, ◌≤◌, ◌<◌, ◌+◌, ◌^◌, refl, sym, subst, ap, ap₂, ◌∙◌, ℕ, suc, Bool, true, false, not, ◌==◌, ◌&&◌, cond, length, take, List, [], ◌∷◌, ◌++◌, append_assoc, codes, nat_le, Some, None, Option, Result, Ok, Err, arith, length-append}
 use Rattle.std.proofs.lemmas.Bool.Decides.{nat_tests}
 use Rattle.std.proofs.lemmas.Fmt.{decimal_injective}
 use Rattle.std.proofs.lemmas.Slice.Eq.{bytes_eq-Decides}
@@ -195,9 +195,6 @@ begins (b ∷ text) = first (b == 47) (47 == b) refl refl
     first true u is so = ap (λ (x : Bool). x && true) (other_way 47 b ∙ is) ∙ sym is
     first false u is so = ap (λ (x : Bool). x && true) (other_way 47 b ∙ is) ∙ sym is
 
-fits_in : (n : ℕ) → n ≤ 8192 → nat_le n 8192 ≡ true
-fits_in n less = grind (arith, nat_tests)
-
 same_host : (key : Key) (text : Bytes) → is_same_host (record key { path = text }) key ≡ true
 same_host key text = ap₂ (λ (x y : Bool). x && y) ((bytes_eq-Decides key.host key.host).1 refl) (same_num key.port key.port refl)
 
@@ -207,20 +204,20 @@ joined_text key text = append_assoc (codes "http://") (key.host ++ port_text key
 abbrev chosen : Key → Option Key → Option Bytes
 chosen key o = elim o as (λ t. Option Bytes) [ None ↦ None | Some named ↦ elim (is_same_host named key) as (λ t. Option Bytes) [ true ↦ Some (text_of named) | false ↦ None ] ]
 
-path_same : (key : Key) (text : Bytes) → length (site_of key) + length text ≤ 8192 → path_named (site_of key) text ≡ chosen key (law_path_named key text)
-path_same key text less =
-    ap (λ (b : Bool). some_if ((slice_index text 0 == 47) && b) (site_of key ++ text)) (fits_in (length (site_of key) + length text) less)
-    ∙ ap (λ (b : Bool). some_if (b && true) (site_of key ++ text)) (sym (begins text))
-    ∙ by (starts_with nat_eq text (codes "/"))
+path_same : (key : Key) (text : Bytes) → path_named (site_of key) text ≡ chosen key (law_path_named key text)
+path_same key text =
+    ap (λ (n : ℕ). some_if ((slice_index text 0 == 47) && nat_le n 8192) (site_of key ++ text)) (sym (length-append (site_of key) text) ∙ ap (λ (t : Bytes). length t) (joined_text key text))
+    ∙ ap (λ (b : Bool). some_if (b && nat_le (length (text_of (record key { path = text }))) 8192) (site_of key ++ text)) (sym (begins text))
+    ∙ by (starts_with nat_eq text (codes "/") && nat_le (length (text_of (record key { path = text }))) 8192)
   where
-    by : (b : Bool) → some_if (b && true) (site_of key ++ text) ≡ chosen key (elim b as (λ t. Option Key) [ true ↦ Some (record key { path = text }) | false ↦ None ])
+    by : (b : Bool) → some_if b (site_of key ++ text) ≡ chosen key (elim b as (λ t. Option Key) [ true ↦ Some (record key { path = text }) | false ↦ None ])
     by true =
         ap (λ (t : List ℕ). Some t) (joined_text key text)
         ∙ sym (ap (λ (c : Bool). elim c as (λ t. Option Bytes) [ true ↦ Some (text_of (record key { path = text })) | false ↦ None ]) (same_host key text))
     by false = refl
 
 pub names_same : NamesAreTheLaws
-names_same key target text is less = by (key_at text) refl
+names_same key target text is = by (key_at text) refl
   where
     by : (r : Result Key TargetFault) → key_at text ≡ r → key_named (site_of key) text ≡ named_at key text
     by (Ok named) so =
@@ -229,5 +226,5 @@ names_same key target text is less = by (key_at text) refl
         ∙ sym (ap (λ (s : Result Key TargetFault). chosen key (elim s as (λ t. Option Key) [ Ok k ↦ Some k | Err fault ↦ law_path_named key text ])) so)
     by (Err fault) so =
         ap (λ (s : Result Key TargetFault). elim s as (λ t. Option Bytes) [ Ok k ↦ url_named (site_of key) k | Err f ↦ path_named (site_of key) text ]) so
-        ∙ path_same key text less
+        ∙ path_same key text
         ∙ sym (ap (λ (s : Result Key TargetFault). chosen key (elim s as (λ t. Option Key) [ Ok k ↦ Some k | Err f ↦ law_path_named key text ])) so)

@@ -9,6 +9,6 @@ use Rattle.pp_target.specs.Key.{Key, key_at, text_of}
 abbrev pub named_at : Key → Bytes → Option Bytes
 named_at key text = elim (law_key_named key text) [ None ↦ None | Some named ↦ elim (is_same_host named key) [ true ↦ Some (text_of named) | false ↦ None ] ]
 
--- of the key of a target: ours, no key has more than 8,192 bytes
+-- of the key of a target
 abbrev pub NamesAreTheLaws : Type 0
-NamesAreTheLaws = (key : Key) (target text : Bytes) → key_at target ≡ Ok key → length (site_of key) + length text ≤ 8192 → key_named (site_of key) text ≡ named_at key text
+NamesAreTheLaws = (key : Key) (target text : Bytes) → key_at target ≡ Ok key → key_named (site_of key) text ≡ named_at key text

@@ -28,17 +28,11 @@ abbrev pub WereReadIf : (b : Bool) (key : Option Bytes) (path : ℕ) (head : Res
 WereReadIf false key path head old new it = ⊤
 WereReadIf true key path head old new it = WereReadOf key path head old new it
 
--- no key has more than 8,192 bytes
-abbrev pub AreShort : Bytes → List Bytes → Type 0
-AreShort site [] = ⊤
-AreShort site (text ∷ texts) = (length site + length text ≤ 8192) × AreShort site texts
-
 -- its key is that of a target, in its place
 pub record IsKeyed (x : Entry) (e : Exchange) (head : Response) : Type 0 where
   pub target : Bytes
   pub key : key_at target ≡ Ok e.key
   pub place : x.errand.place.path ≡ (place_of e.key).path
-  pub short : AreShort (site_of e.key) (places_named head)
 
 abbrev pub PassedHeadsAreTheLaws : Type 0
 PassedHeadsAreTheLaws = OfSteps (λ number name l peers p s. (n : ℕ) (x : Entry) (e : Exchange) (head : Response) (rule : BodyRule) (new : Parts) → IsPassed p s n x e → (law_invalidates e head ≡ true → IsKeyed x e head) → (passes : PassesHead name x.exchange x.errand head rule p new)

@@ -25,7 +25,6 @@ use Rattle.pp_state.specs.declared.state.State.{State as Turn}
 use Rattle.pp_states_law.specs.Charges.{IsFor}
 use Rattle.pp_turns_law.specs.Turns.{IsFollowing}
 use Rattle.pp_answers_law.specs.Disproving.{GoesWithClient}
-use Rattle.pp_answers_law.specs.Outdates.{AreShort}
 use Rattle.pp_answers_law.specs.Owns.{IsAtHead, IsShown}
 
 -- how the body is delimited of one that answers it
@@ -55,11 +54,10 @@ OwnAnswersAreTheLaws = OfAnswers (λ t s e head new. e.aim ≡ Own)
 abbrev pub NamesKey : Exchange → Client → Type 0
 NamesKey e c = key_in c.front ≡ Some e.key
 
--- an ask that goes alone has its client; and what an unsafe method changed is named in no more bytes than a key has
+-- an ask that goes alone has its client
 pub record MayPass (s : State) (e : Exchange) (head : Response) : Type 0 where
   pub client : GoesWithClient s e
   pub key : IsFor s e (NamesKey e)
-  pub short : invalidates e head ≡ true → AreShort (site_of e.key) (places_named head)
 
 -- this life did not go astray: memory was not refused to read a place that it names
 pub record Passes (s : State) (e : Exchange) (head : Response) (new : Parts) : Type 0 where

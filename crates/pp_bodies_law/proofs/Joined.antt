@@ -22,7 +22,7 @@ use Rattle.pp_flow_law.specs.Tables.{Leaving, ShowsFlow}
 use Rattle.pp_law.specs.Chunks.{joined as law_joined, note_use}
 use Rattle.pp_law.specs.Connections.{exchange, on_exchange}
 use Rattle.pp_law.specs.Lists.{Bytes}
-use Rattle.pp_law.specs.OwnHeads.{join, join_bound, moved_on}
+use Rattle.pp_law.specs.OwnHeads.{join, joined_one, join_bound, moved_on}
 use Rattle.pp_law.specs.Stages.{bound_of}
 use Rattle.pp_law.specs.State.{State, Bound, Client, Exchange, Instance as Known, Joining}
 use Rattle.pp_law.specs.Table.{extent_of, instance}
@@ -67,6 +67,10 @@ fits kept at total bytes within = grind (arith, nat_tests, within, length-drop (
 abbrev join_if : Bound → Bytes → State → Option Known → State
 join_if b bytes s o = elim o as (λ x. State) [ None ↦ s | Some x ↦ note_use (record s { chunks = law_joined x.id (extent_of s x) b.next bytes s.chunks }) ]
 
+none_join : (none : Bool) (o : Option Known) → o ≡ None → elim none as (λ t. Option Known) [ true ↦ None | false ↦ o ] ≡ None
+none_join true o is = refl
+none_join false o is = is
+
 run_joins : (number : ℕ → ℕ) (m k : Memory) (s : State) (id : ObjectId) (b : Bound) (bytes : Bytes) → ShowsCache number m s → IsTold number m s.next_instance id → number id.life ≡ b.instance
     → ((y : Known) → instance s b.instance ≡ Some y → FindsRoom m s id b bytes y) → HasJoined (with_run id b.next bytes m) k → ShowsCache number k (join b bytes s)
 unfolding run_by join
@@ -74,7 +78,7 @@ run_joins number m k s id b bytes shows told bound finds has = by (is_there id m
   where
     by : (t : Bool) → is_there id m.instances ≡ t → ShowsCache number k (join b bytes s)
     by false gone =
-        let none : instance s b.instance ≡ None = ap (λ (n : ℕ). instance s n) (sym bound) ∙ gone_too number m s id shows.table told gone in
+        let none : joined_one b bytes s ≡ None = none_join _ (instance s b.instance) (ap (λ (n : ℕ). instance s n) (sym bound) ∙ gone_too number m s id shows.table told gone) in
         subst (λ (o : Option Known). ShowsCache number k (join_if b bytes s o)) (sym none)
         (cache_faced number m k s shows (subst (λ (t : Bool). HasJoined (elim (t && nat_le (b.next + kept_of_run (bytes_kept id m) b.next (length bytes) + length (drop (kept_of_run (bytes_kept id m) b.next (length bytes)) bytes)) (total_at id.slot m.instances)) as (λ x. Memory) [
           | true ↦ record m { chunks = (added_behind (bytes_kept id m) m.size id.slot b.next bytes m.chunks).chunks; grown = grown_by id m.grown }
@@ -97,7 +101,7 @@ run_joins number m k s id b bytes shows told bound finds has = by (is_there id m
 
 join_flow : (number : ℕ → ℕ) (l : Leaving) (f : Exchanges) (b : Bound) (bytes : Bytes) (s : State) → ShowsFlow number l f s → ShowsFlow number l f (join b bytes s)
 unfolding join note_use
-join_flow number l f b bytes s shows = by (instance s b.instance)
+join_flow number l f b bytes s shows = by (joined_one b bytes s)
   where
     by : (o : Option Known) → ShowsFlow number l f (elim o as (λ x. State) [ None ↦ s | Some x ↦ note_use (record s { chunks = law_joined x.id (extent_of s x) b.next bytes s.chunks }) ])
     by None = shows
@@ -105,7 +109,7 @@ join_flow number l f b bytes s shows = by (instance s b.instance)
 
 pub join_clients : (b : Bound) (bytes : Bytes) (s : State) → (join b bytes s).clients ≡ s.clients
 unfolding join note_use
-join_clients b bytes s = by (instance s b.instance)
+join_clients b bytes s = by (joined_one b bytes s)
   where
     by : (o : Option Known) → (elim o as (λ x. State) [ None ↦ s | Some x ↦ note_use (record s { chunks = law_joined x.id (extent_of s x) b.next bytes s.chunks }) ]).clients ≡ s.clients
     by None = refl
@@ -172,7 +176,7 @@ run_stands id at bytes m k next has =
 
 join_next : (b : Bound) (bytes : Bytes) (s : State) → (join b bytes s).next_instance ≡ s.next_instance
 unfolding join note_use
-join_next b bytes s = by (instance s b.instance)
+join_next b bytes s = by (joined_one b bytes s)
   where
     by : (o : Option Known) → (elim o as (λ x. State) [ None ↦ s | Some x ↦ note_use (record s { chunks = law_joined x.id (extent_of s x) b.next bytes s.chunks }) ]).next_instance ≡ s.next_instance
     by None = refl
@@ -180,7 +184,7 @@ join_next b bytes s = by (instance s b.instance)
 
 join_conns : (ps : List Peer) (b : Bound) (bytes : Bytes) (s : State) → ShowConns s ps s.conns → ShowConns (join b bytes s) ps (join b bytes s).conns
 unfolding join note_use
-join_conns ps b bytes s shows = by (instance s b.instance)
+join_conns ps b bytes s shows = by (joined_one b bytes s)
   where
     by : (o : Option Known) → ShowConns (join_if b bytes s o) ps (join_if b bytes s o).conns
     by None = shows

@@ -293,20 +293,14 @@ joins_alike number m slot n e total size at bytes cs ds apart there ends within 
         (none_added number m size slot (at + kept_of_run e at (length bytes)) (drop (kept_of_run e at (length bytes)) bytes) cs ds
         (ap (λ (j : ℕ). drop j bytes) (all_kept less) ∙ drop_all (length bytes) bytes (omega arith)) both)
 
+none_come : (id extent at : ℕ) (bytes : Bytes) (chunks : List Front) → is_empty bytes ≡ true → law_joined id extent at bytes chunks ≡ chunks
+none_come id extent at [] chunks none = refl
+none_come id extent at (b ∷ bytes) chunks none = absurd (let no : false ≡ true = none in cc no)
+
 pub joins_of : JoinsAreTheLaws
 unfolding join note_use
 joins_of number m s shows is id x b bytes there known bound ends within whole same =
-    subst (λ (u : Option Known). ShowsCache number after_m (elim u as (λ o. State) [ None ↦ s | Some y ↦ note_use (record s { chunks = law_joined y.id (extent_of s y) b.next bytes s.chunks }) ]))
-    (sym (ap (λ (n : ℕ). instance s n) bound ∙ known))
-    (record {
-      table =
-          table-again number (record m { instances = is; chunks = cs }) after_m (record s { chunks = ds }) (note_use (record s { chunks = ds }))
-          (record { instances = refl; lives = refl; chunks = refl; extents = refl })
-          (record { instances = refl; made = the_same s.next_instance; chunks = refl; followers = λ n. refl; kept = λ y. refl })
-          (table-faced number (record m { chunks = cs }) (record s { chunks = ds }) is same (with_chunks number m s cs ds shows.table both.shows both.once));
-      followed = followed-faced is m.instances same shows.followed;
-      ahead = shows.ahead;
-    })
+    by (is_empty bytes) refl
   where
     cs : List Chunk
     cs = (added_behind (extent_of s x) m.size id.slot b.next bytes m.chunks).chunks
@@ -322,3 +316,21 @@ joins_of number m s shows is id x b bytes there known bound ends within whole sa
         joins_alike number m id.slot x.id (extent_of s x) x.version.length m.size b.next bytes m.chunks s.chunks shows.table.apart
         (number_of_there number id m.instances there ∙ ap (λ (n : ℕ). Some n) (its_number number m s id x shows.table there known)) ends within whole
         (record { shows = shows.table.chunks; once = shows.table.once })
+
+    joins_to : Option Known → State
+    joins_to o = elim o as (λ t. State) [ None ↦ s | Some y ↦ note_use (record s { chunks = law_joined y.id (extent_of s y) b.next bytes s.chunks }) ]
+
+    behind : (is_evicting : Bool) → ShowsCache number after_m (record s { chunks = ds; is_evicting = is_evicting })
+    behind is_evicting = record {
+      table =
+          table-again number (record m { instances = is; chunks = cs }) after_m (record s { chunks = ds }) (record s { chunks = ds; is_evicting = is_evicting })
+          (record { instances = refl; lives = refl; chunks = refl; extents = refl })
+          (record { instances = refl; made = the_same s.next_instance; chunks = refl; followers = λ n. refl; kept = λ y. refl })
+          (table-faced number (record m { chunks = cs }) (record s { chunks = ds }) is same (with_chunks number m s cs ds shows.table both.shows both.once));
+      followed = followed-faced is m.instances same shows.followed;
+      ahead = shows.ahead;
+    }
+
+    by : (none : Bool) → is_empty bytes ≡ none → ShowsCache number after_m (joins_to (elim none as (λ t. Option Known) [ true ↦ None | false ↦ instance s b.instance ]))
+    by true none = subst (λ (xs : List Front). ShowsCache number after_m (record s { chunks = xs })) (none_come x.id (extent_of s x) b.next bytes s.chunks none) (behind s.is_evicting)
+    by false some = subst (λ (o : Option Known). ShowsCache number after_m (joins_to o)) (sym (ap (λ (n : ℕ). instance s n) bound ∙ known)) (behind _)

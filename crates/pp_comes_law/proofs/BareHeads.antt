@@ -9,14 +9,14 @@ use Rattle.pp_law.specs.Connections.{attempts_of, charge, exchange, give_up_row,
 use Rattle.pp_law.specs.Lists.{Bytes, is_some_with}
 use Rattle.pp_law.specs.OwnHeads.{cleared_by, clears_row, count_elsewhere, drop_answer, filling_head, forbids_sharing, is_asked_by, is_bound, is_of_another, is_private_part, is_widened, key_of, known_version, lacks_next, may_join, may_refresh, names_version, not_modified, not_shared, nothing_to_come, other_head, other_part, own_head, part_head, relay_head, relayed, renew, renew_row, settle, settle_known, settle_on, settle_unchanged, span_to_come, tell, times_for, unchanged, use_body, useless, version_in}
 use Rattle.pp_law.specs.Passing.{passed_by}
-use Rattle.pp_law.specs.Responses.{by_aim}
+use Rattle.pp_law.specs.Responses.{bring_row, by_aim, is_readable}
 use Rattle.pp_law.specs.Stages.{is_begun, passed_of}
 use Rattle.pp_law.specs.State.{State, Aim, Body, Brought, TooWide, Useless, Joins, Joining, Dropping, Passes, Through, Own, Filling, Client, Exchange, Passed}
-use Rattle.pp_law.specs.Table.{clear, mark_row, on_instance, row}
+use Rattle.pp_law.specs.Table.{clear, enter, mark_row, on_instance, row}
 use Rattle.pp_law.specs.ThroughHeads.{clear_each, clear_named, disproved, disproves, invalidated, invalidates, is_same_host, key_named, places_named, reads, through_head}
 use Rattle.pp_laws.proofs.Lists.{From, in_map}
 use Rattle.pp_laws.specs.Runs.{IsIn}
-use Rattle.pp_laws_turn.proofs.Rows.{clear-keeps, make_row-keeps}
+use Rattle.pp_laws_turn.proofs.Rows.{clear-keeps, enter-keeps, make_row-keeps}
 use Rattle.pp_laws_turn.proofs.View.{Holds, KeepsRows, View, facts_of, holds}
 use Rattle.pp_objects.specs.Kept.{kept_of}
 use Rattle.pp_states_law.proofs.Paid.{without_row_keeps}
@@ -26,7 +26,7 @@ use Rattle.pp_valid.specs.declared.version.Version.{Version}
 use Rattle.pp_comes_law.specs.Bare.{AreBare, HeadsLeaveThemBare, IsBare}
 
 module _ (m : ℕ) where
-  bare_as : (s t : State) → t.clients ≡ s.clients → AreBare m s → AreBare m t
+  pub bare_as : (s t : State) → t.clients ≡ s.clients → AreBare m s → AreBare m t
   bare_as s t same all = record { bare = λ c i its. all.bare c (subst (λ (cs : List Client). IsIn c cs) same i) its }
 
   bare_when : (b : Bool) {x y : State} → AreBare m x → AreBare m y → AreBare m (elim b as (λ t. State) [ true ↦ x | false ↦ y ])
@@ -53,6 +53,10 @@ module _ (m : ℕ) where
 
   clear_bare : (key : Bytes) (s : State) → AreBare m s → AreBare m (clear key s)
   clear_bare key s = bare_those s (clear key s) (clear-keeps (rows s) key s (those s))
+
+  pub brought_bare : (e : Exchange) (head : Response) (s : State) → AreBare m s → AreBare m (bring_row e head s)
+  unfolding bring_row
+  brought_bare e head s all = bare_when (is_readable e head) (bare_those s (enter (key_of e) true s) (enter-keeps (rows s) (key_of e) true s (those s)) all) all
 
   cleared_bare : (head : Response) (e : Exchange) (s : State) → AreBare m s → AreBare m (cleared_by head e s)
   unfolding cleared_by

@@ -24,7 +24,6 @@ use Rattle.pp_seats_law.specs.Exchanges.{Binding}
 use Rattle.pp_states_law.specs.Charges.{IsFor}
 use Rattle.pp_comes_law.proofs.KeptRows.{AreWhole, ends_so}
 use Rattle.pp_comes_law.proofs.RoomReads.{HasChunks}
-use Rattle.pp_comes_law.specs.Moments.{BodyRestsBeside}
 
 none_empty : (a : Answer) (bytes : Bytes) → a.rule ≡ Empty → data_in a bytes ≡ []
 none_empty a bytes is =
@@ -33,8 +32,8 @@ none_empty a bytes is =
 none_some : (b : ℕ) (bytes : Bytes) → [] ≡ b ∷ bytes → ⊥
 none_some b bytes both = cc both
 
-pub data_go : (x : Both) (s : State) (k : Conn) (e : Exchange) (a : Answer) (bytes : Bytes) → Sound from_now s → Plain s.conns s.exchanges → IsIn k s.conns → IsIn e s.exchanges → IsIn e.number k.line → k.answer ≡ Some a → AreWhole s → HasChunks x s a e bytes → BodyRestsBeside x s a e bytes → MayGo x.state s e (data_in a bytes)
-data_go x s k e a bytes so brought here there lined has whole chunks rest = by (data_in a bytes) refl
+pub data_go : (x : Both) (s : State) (k : Conn) (e : Exchange) (a : Answer) (bytes : Bytes) → Sound from_now s → Plain s.conns s.exchanges → IsIn k s.conns → IsIn e s.exchanges → IsIn e.number k.line → k.answer ≡ Some a → AreWhole s → HasChunks x s a e bytes → IsFor s e (FindsPipe (data_in a bytes)) → MayGo x.state s e (data_in a bytes)
+data_go x s k e a bytes so brought here there lined has whole chunks room = by (data_in a bytes) refl
   where
     of_answer : (b : Bound) (y : Known) (n : ℕ) (more : Bytes) → data_in a bytes ≡ n ∷ more → bound_of e ≡ Some b → instance s b.instance ≡ Some y → b.to ≤ y.version.length
     of_answer b y n more some is found = at one.answer one.is one.fits
@@ -77,5 +76,5 @@ data_go x s k e a bytes so brought here there lined has whole chunks rest = by (
     by [] none = tt
     by (n ∷ more) some = record {
       joins = λ z placed. subst (λ (bs : Bytes). IsToJoin z.exchange.bound (bound_of e) x.state.cache s bs) some (joins n more some z placed z.exchange.bound (bound_of e) refl refl);
-      fits = subst (λ (bs : Bytes). IsFor s e (FindsPipe bs)) some rest.fits;
+      fits = subst (λ (bs : Bytes). IsFor s e (FindsPipe bs)) some room;
     }

@@ -27,6 +27,10 @@ pub mod BareHeads
 pub mod MarkReads
 pub mod RoomReads
 pub mod ComesOn
+pub mod AtMoments
+pub mod HeadMoments
+pub mod PipeHeads
+pub mod PipeRooms
 pub mod ReadMoments
 pub mod NamesThere
 pub mod Lones

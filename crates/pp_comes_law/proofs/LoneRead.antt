@@ -10,14 +10,13 @@ use Rattle.pp_pipe.specs.Front.{is_interim}
 use Rattle.pp_text.specs.Bytes.{is_empty}
 use Rattle.pp_law.specs.Connections.{close_conn, conn, front_of_line, on_conn, is_exchange, on_exchange, unplaced}
 use Rattle.pp_law.specs.Lists.{Bytes}
-use Rattle.pp_law.specs.OwnHeads.{is_wrong_head, join, join_bound, moved_on, note_own, note_sent}
+use Rattle.pp_law.specs.OwnHeads.{is_wrong_head, join, join_bound, joined_one, moved_on, note_own, note_sent}
 use Rattle.pp_law.specs.Responses.{Piece, answer_for, answer_with, answered_by, asks_head, bad_head, bad_response, begin_answer, body_piece, body_piece_of, by_aim, deliver, end_if_empty, finish, got, head_came, head_piece, is_early, next_piece, payload_of, with_unread}
 use Rattle.pp_law.specs.State.{State, Answer, Conn, Exchange, Aim, Through, Own, Filling, Bound, Joining}
 use Rattle.pp_law.specs.Closing.{left_alone}
 use Rattle.pp_law.specs.Chunks.{note_use}
 use Rattle.pp_law.specs.Passing.{poured}
 use Rattle.pp_law.specs.Stages.{bound_of, is_pending, is_through}
-use Rattle.pp_law.specs.Table.{instance}
 use Rattle.pp_laws.specs.Runs.{IsIn}
 use Rattle.pp_laws.proofs.Lists.{Changed, in_change, in_filter, in_map, other, same}
 use Rattle.pp_laws_coming.proofs.Facts.{AreApart}
@@ -137,7 +136,7 @@ module _ (es : List Exchange) where
 
   joined_so : (b : Bound) (bytes : Bytes) (s : State) → Keeps s → Keeps (join b bytes s)
   unfolding join note_use
-  joined_so b bytes s h = each_of (instance s b.instance) h (λ x. holds (facts_of h))
+  joined_so b bytes s h = each_of (joined_one b bytes s) h (λ x. holds (facts_of h))
 
   noted_so : (e : Exchange) (a : Answer) (at : ℕ) (bytes : Bytes) (s : State) → Keeps s → Keeps (note_sent e a at bytes s)
   unfolding note_sent note_own

@@ -10,12 +10,12 @@ use Rattle.pp_head.specs.Response.{Response}
 use Rattle.pp_law.specs.Chunks.{joined, note_use}
 use Rattle.pp_law.specs.Connections.{end_exchange, front_of_line, is_conn, on_conn, on_exchange, without_ask}
 use Rattle.pp_law.specs.Lists.{Bytes}
-use Rattle.pp_law.specs.OwnHeads.{is_wrong_head, join, join_bound, note_own, note_sent}
+use Rattle.pp_law.specs.OwnHeads.{is_wrong_head, join, join_bound, joined_one, note_own, note_sent}
 use Rattle.pp_law.specs.Passing.{pour, poured}
 use Rattle.pp_law.specs.Responses.{answer_for, answer_with, answered_by, Piece, asks_head, bad_response, begin_answer, body_piece_of, deliver, end_if_empty, finish, head_came, may_go_on, payload_of, rested, skip_body, with_unread}
 use Rattle.pp_law.specs.Stages.{bound_of}
 use Rattle.pp_law.specs.State.{State, Answer, Bound, Chunk, Conn, Exchange}
-use Rattle.pp_law.specs.Table.{extent_of, instance}
+use Rattle.pp_law.specs.Table.{extent_of}
 use Rattle.pp_laws.proofs.Lists.{From, in_map}
 use Rattle.pp_laws.proofs.Payloads.{payload-grows}
 use Rattle.pp_laws.specs.Runs.{IsIn}
@@ -113,7 +113,7 @@ more_mark bytes s h = holds (record { few = (let le = (facts_of h).few in omega 
 join_mark : {n most asks : ℕ} (b : Bound) (bytes : Bytes) (s : State) → Holds (InMark n most asks) s → Holds (InMark n (with_data most bytes) asks) (join b bytes s)
 unfolding join note_use
 join_mark {n} {most} {asks} b bytes s h =
-    each_of (instance s b.instance) (more_mark bytes s h) (λ x. holds (record { few = (let le = (facts_of h).few in let more = joined_few x.id (extent_of s x) b.next bytes s.chunks in omega (arith, le, more)); lined = (facts_of h).lined }))
+    each_of (joined_one b bytes s) (more_mark bytes s h) (λ x. holds (record { few = (let le = (facts_of h).few in let more = joined_few x.id (extent_of s x) b.next bytes s.chunks in omega (arith, le, more)); lined = (facts_of h).lined }))
 
 bound_mark : {n most asks : ℕ} (e : Exchange) (bytes : Bytes) (s : State) → Holds (InMark n most asks) s → Holds (InMark n (with_data most bytes) asks) (join_bound e bytes s)
 unfolding join_bound on_exchange
@@ -180,6 +180,13 @@ head_space n critical k head s bytes rest fewer h = record { most = h.most; asks
 pub cleared_space : (n critical m : ℕ) (unread : Bytes) (s : State) (bytes : Bytes) → HasSpace n critical s bytes → HasSpace n critical (on_conn m (with_unread unread) s) bytes
 cleared_space n critical m unread s bytes h = record { most = h.most; asks = h.asks; held = set_mark m (with_unread unread) s (λ j. refl) (λ j. refl) h.held; room = h.room }
 
+-- what is new of a body, and what is left behind it, are no more than the bytes that came
+pub data_weigh : (a : Answer) (bytes : Bytes) → GoesOn a → length (data_in a bytes) + left_by (body_of a.rule (a.raw ++ bytes)).outcome ≤ length bytes
+data_weigh a bytes on =
+    let grew : length (payload_of a) ≤ length (body_of a.rule (a.raw ++ bytes)).payload = payload-grows a.rule a.raw bytes in
+    let all : length (body_of a.rule (a.raw ++ bytes)).payload + left_by (body_of a.rule (a.raw ++ bytes)).outcome ≤ length (payload_of a) + length bytes = body_weighs a.rule a.raw bytes on in
+    omega (arith, length-drop (length (payload_of a)) (body_of a.rule (a.raw ++ bytes)).payload, grew, all)
+
 -- data of a body, of the first of the line
 module _ (n critical : ℕ) (k : Conn) (a : Answer) (e : Exchange) (others : List ℕ) (bytes : Bytes) (s : State) (here : IsIn k s.conns) (its : k.number ≡ n) (only : (j : Conn) → IsIn j s.conns → j.number ≡ n → j ≡ k) (line : k.line ≡ e.number ∷ others) (on : GoesOn a) (h : HasSpace n critical s bytes) where
   abbrev body : Body
@@ -195,10 +202,7 @@ module _ (n critical : ℕ) (k : Conn) (a : Answer) (e : Exchange) (others : Lis
   some = let le : length (e.number ∷ others) ≤ h.asks = subst (λ (ns : List ℕ). length ns ≤ h.asks) line (lined_in h.held k here its) in omega (arith, le)
 
   weighs : length fresh + left_by body.outcome ≤ length bytes
-  weighs =
-      let grew : at ≤ length body.payload = payload-grows a.rule a.raw bytes in
-      let all : length body.payload + left_by body.outcome ≤ at + length bytes = body_weighs a.rule a.raw bytes on in
-      omega (arith, length-drop at body.payload, grew, all)
+  weighs = data_weigh a bytes on
 
   runs : 4096 * (length fresh / 4096) ≤ length fresh
   runs = mul-div-le (length fresh) 4096

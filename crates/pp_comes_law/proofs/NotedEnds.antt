@@ -4,13 +4,13 @@ use Rattle.std.proofs.Common.{◌≡◌, ◌≤◌, refl, sym, subst, ap, ◌∙
 use Rattle.pp_cache.specs.Notes.{has_noted}
 use Rattle.pp_law.specs.Connections.{close_conn, conn, each_exchange, end_exchange, exchange, fail, front_of_line, is_conn, is_exchange, leave_place, lose_attempt, lose_place, may_ask_again, on_client_of, on_conn, on_exchange, without_ask}
 use Rattle.pp_law.specs.Lists.{Bytes}
-use Rattle.pp_law.specs.OwnHeads.{first_offset, join, join_bound, moved_on, note_own, note_sent, sent_as}
+use Rattle.pp_law.specs.OwnHeads.{first_offset, join, join_bound, moved_on, note_own, note_sent, sent_as, joined_one}
 use Rattle.pp_law.specs.Chunks.{joined, note_use}
 use Rattle.pp_law.specs.Passing.{pour, poured}
 use Rattle.pp_law.specs.Responses.{Piece, bad_head, bad_response, close_this, deliver, finish, may_go_on, rested, skip_body, skipping}
 use Rattle.pp_law.specs.Stages.{bound_of, is_headed}
 use Rattle.pp_law.specs.State.{State, Aim, Through, Own, Filling, Answer, Bound, Conn, Exchange, Instance}
-use Rattle.pp_law.specs.Table.{extent_of, instance}
+use Rattle.pp_law.specs.Table.{extent_of}
 use Rattle.pp_laws.proofs.Lists.{From, in_find, in_map}
 use Rattle.pp_laws.proofs.Tests.{number_same, same_number}
 use Rattle.pp_laws.specs.Runs.{IsIn}
@@ -263,7 +263,7 @@ joined_beside e bytes s = by (bound_of e)
 
     by : (o : Option Bound) → IsBeside s (elim o as (λ c. State) [ None ↦ s | Some to ↦ on_exchange e.number (moved_on (length bytes)) (join to bytes s) ])
     by None = record { conns = refl; instances = refl; forgotten = refl }
-    by (Some to) = found to (instance s to.instance)
+    by (Some to) = found to (joined_one to bytes s)
 
 pub delivered_beside : (e : Exchange) (a : Answer) (at : ℕ) (bytes : Bytes) (s : State) → IsBeside s (deliver e a at bytes s)
 unfolding deliver

@@ -136,4 +136,4 @@ origin_reads_come leads k terms log number w x y u off it came may handles bound
     (owed_going k s ∙ ((sound_turns terms s log it.obeys).awaits it.stands.law.at).going) (owed_none k w u) (owed_disk x.shelf k s may.disk)
     (λ bytes brought. ap (λ (m : Memory). m.size) (woken_cache k x.moving.desk woken wakes) ∙ may.size bytes brought.told ∙ sym (owed_set k s))
     (subst Rise (sym (woken_flow k x.moving.desk woken wakes)) (rises number x.moving.desk.state.name.items _ x.moving.desk.peers x.moving.desk.state s it.stands.desk.turn.steps)) (woken_names terms log number w x u k woken it wakes) (may.brings woken wakes)) bounded straight handles in
-    record { number = led.number; led = led.led; ready = λ told. led.ready told (keys_given terms log number w x y u (Readable k) it handles straight) }
+    record { number = led.number; led = led.led; ready = led.ready (keys_given terms log number w x y u (Readable k) it handles straight); through = led.through }

@@ -71,7 +71,7 @@ space_first terms n s log all obeys owed short lines = record {
 -- ---- at each moment
 
 module _ (name : Bytes) (shelf : KeptMap) (n : ℕ) (begins : Both) (from : State) (all : Bytes) (critical : ℕ) (comes : (pieces : ℕ) (x : Both) (s : State) (bytes : Bytes) → IsMoment pieces name shelf n begins from all x s bytes → Comes s × Sound from_now s) where
-  behind_head : (x w : Both) (s u : State) (bytes more : Bytes) → IsBehindHead shelf n w u more x s bytes → HasSpace n critical u more → HasSpace n critical s bytes
+  behind_head : (x w : Both) (s u : State) (bytes more : Bytes) → IsBehindHead name shelf n w u more x s bytes → HasSpace n critical u more → HasSpace n critical s bytes
   behind_head x w s u bytes more it h =
       subst (λ (t : State). HasSpace n critical t bytes) (sym it.state)
       (subst (λ (bs : Bytes). HasSpace n critical (head_came it.there.before it.it.head it.there.then) bs) (sym it.left) (head_space n critical it.there.before it.it.head it.there.then more it.it.rest it.it.fewer (by it.there.stands)))
@@ -106,7 +106,7 @@ module _ (name : Bytes) (shelf : KeptMap) (n : ℕ) (begins : Both) (from : Stat
       on : GoesOn it.answer
       on = going_of u m.0 it.conn it.answer here it.within.on.answer
 
-  behind_it : (pieces : ℕ) (x w : Both) (s u : State) (bytes more : Bytes) → IsMoment pieces name shelf n begins from all w u more → HasSpace n critical u more → IsBehindHead shelf n w u more x s bytes ⊎ IsBehindPiece name shelf n w u more x s bytes → HasSpace n critical s bytes
+  behind_it : (pieces : ℕ) (x w : Both) (s u : State) (bytes more : Bytes) → IsMoment pieces name shelf n begins from all w u more → HasSpace n critical u more → IsBehindHead name shelf n w u more x s bytes ⊎ IsBehindPiece name shelf n w u more x s bytes → HasSpace n critical s bytes
   behind_it pieces x w s u bytes more is h (inl it) = behind_head x w s u bytes more it h
   behind_it pieces x w s u bytes more is h (inr it) = behind_piece x w s u bytes more (comes pieces w u more is) it h
 

@@ -8,4 +8,5 @@ pub mod Settled
 pub mod Moments
 pub mod Named
 pub mod Bare
+pub mod Pipes
 pub mod Lone

@@ -18,7 +18,7 @@ use Rattle.pp_law.specs.Turn.{rest_with}
 use Rattle.pp_proxy.specs.Handling.{Handles, Wakes}
 use Rattle.pp_proxy.specs.Moving.{Turning, at_desk}
 use Rattle.pp_reads_law.specs.Goes.{AllGoOn}
-pub use Rattle.pp_reads_law.specs.Readable.{AreToldBehind}
+pub use Rattle.pp_reads_law.specs.Readable.{IsReadAwake}
 use Rattle.pp_state.specs.Ends.{numbers_of, place_of}
 use Rattle.pp_world.specs.Log.{AppendsAll, Log}
 use Rattle.pp_world.specs.declared.event.Event.{Event}
@@ -51,12 +51,13 @@ pub record MayBringBytes (k : ℕ) (x y : Turning) (s : State) : Type 0 where
   pub size : (bytes : Bytes) → AppendsAll x.log y.log (λ l. Got k bytes ∷ []) → x.moving.desk.state.cache.size ≡ s.settings.critical
   pub next : AllGoOn s
 
--- a row that came with it has a number, so that the numbers may be others. Each client that goes on can be decided; behind bytes, where what its
--- exchange joined is told
+-- a row that came with it has a number, so that the numbers may be others. Each client that goes on can be decided
 pub record IsReadBehind (k : ℕ) (x y : Turning) (s : State) : Type 0 where
   pub number : ℕ → ℕ
   pub led : HasLedBehind number (CanRead k) x y s
-  pub ready : AreToldBehind k number led.log y.moving led.then → AreReadyAt number y.moving led.then
+  pub ready : AreReadyAt number y.moving led.then
+  -- bytes that came were read through
+  pub through : (bytes : Bytes) → led.log ≡ Got k bytes ∷ [] → IsReadAwake k x y s bytes led.handled.handled
 
 abbrev pub OriginReadsCome : Type 0
 OriginReadsCome = (k : ℕ) (terms : List Term) (log : Log) (number : ℕ → ℕ) (w : Wants) (x y : Turning) (u : State) → IsOfOrigin k x → IsAwaited terms log number w x u → HasComeTo log w (Readable k) x → MayBringBytes k x y (rest_with w u)

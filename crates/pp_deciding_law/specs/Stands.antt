@@ -20,8 +20,8 @@ pub record IsDeciding (s : State) : Type 0 where
   pub none : s.made_room_for ≡ None
 
 -- the turn shows it, with what is kept on the disk, in the fields that are kept; each client that goes on can be decided; and who is not
--- looked at is asleep. All of it is carried from step to step. Memory was refused for none of it, which has no source yet; nor has `disk`,
--- which ShowsShelf and AreNoted give where no entry has a closed name, and `kept`, of a folder from elsewhere
+-- looked at is asleep. All of it is carried from step to step, in a life that does not go astray: `disk` is what ShowsShelf and AreNoted give
+-- where no entry has a closed name, and `kept` is so from the opening on (Supplied of `pp_turn_law` has all of it)
 pub record StandsToDecide (number : ℕ → ℕ) (peers : List Peer) (shelf : KeptMap) (p : Turn) (s : State) : Type 0 where
   pub deciding : IsDeciding s
   pub turn : ShowsTurn number none_leaves peers p s

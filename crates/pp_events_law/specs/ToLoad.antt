@@ -66,7 +66,7 @@ pub record IsToLoad (id i : ℕ) (p : Turn) (seat : Seat) (next : Next) : Type 0
   pub alone : next_on_disk p seat ≡ Some next
   -- no instance is longer than 1 GiB (`can_keep` of pp_valid, at its making)
   pub near : next.at ≤ 1073741824
-  -- a turn begins with fewer chunks than the trigger, which is 31 below what there may be (`trigger` of pp_law); no source yet
+  -- where an event is awaited there is room for 32 more (`waits` of HasRoom of `pp_laws_room`)
   pub room : length p.cache.chunks + 3 ≤ p.cache.size
 
 -- ---- the log

@@ -47,10 +47,10 @@ pub record IsDoneWithEvent (number : ℕ → ℕ) (x : Moving) (handled : State)
 
 -- what leaves memory is the law's
 pub record MayLeave (x : Moving) (handled : State) : Type 0 where
-  -- each row that leaves for another is noted in both: where a response makes a row one is taken out, and here all are noted; no source yet
+  -- each row that leaves for another is noted in both: where a response makes a row one is taken out, and here all are noted (ReadsCome of `pp_joints_law`)
   pub forgotten : x.desk.state.forgotten ≡ handled.forgotten
-  -- the trigger was reached in both, or no chunk would have to go. The law looks for it also where a read brings no byte of a body, and the
-  -- program does not: there no more than the floor are used, from the last turn on; no source yet
+  -- the trigger was reached in both, or no chunk would have to go. The program looks for it also where bytes come for an instance that is gone, and
+  -- the law does not: there no more than the floor are used (DataTies of `pp_joints_law`)
   pub evicting : (x.desk.state.is_evicting ≡ handled.is_evicting) ⊎ (next_victim (pins x.desk.state) x.desk.state.floor x.desk.state.cache.chunks ≡ None)
   -- from the opening on (Opening.`IsSet` of `pp_desk`)
   pub floor_is : x.desk.state.floor ≡ floor handled

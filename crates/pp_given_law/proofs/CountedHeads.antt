@@ -223,7 +223,7 @@ module _ (s u : State) (all : WereThere s u) where
 
 -- ---- of one head
 
-module _ (number : ℕ → ℕ) (name : Bytes) (shelf : KeptMap) (n : ℕ) (x next : Both) (s t : State) (bytes rest : Bytes) (r : IsBehindHead shelf n x s bytes next t rest) (shows : ShowsSides number name (sides_of next) t)
+module _ (number : ℕ → ℕ) (name : Bytes) (shelf : KeptMap) (n : ℕ) (x next : Both) (s t : State) (bytes rest : Bytes) (r : IsBehindHead name shelf n x s bytes next t rest) (shows : ShowsSides number name (sides_of next) t)
     (leads : HeadLeads r.number (is_wrong_head r.exchange r.it.head) r.there.begin r.head r.there.then n r.there.before r.exchange r.it.head r.it.rule) (may : is_wrong_head r.exchange r.it.head ≡ false → MayEnd r.there.then r.there.before r.exchange r.it.head r.it.rule)
     (lines_first : LinesAreAnswered s) (later : LinesAreAnswered t) (counted_first : AreCounted x.state s) where
   abbrev u : State

@@ -26,17 +26,17 @@ use Rattle.pp_stays_law.proofs.Came.{AllConns}
 -- ---- of each connection
 
 -- it stays so as its line and its answer are left
-abbrev IsLeft : (Conn → Type 0) → Type 0
+abbrev pub IsLeft : (Conn → Type 0) → Type 0
 IsLeft R = (j k : Conn) → Lesser j k → R k → R j
 
-abbrev OnConns : (Conn → Type 0) → View → Type 0
+abbrev pub OnConns : (Conn → Type 0) → View → Type 0
 OnConns R v = AllConns R v.conns
 
 all_less : (R : Conn → Type 0) → IsLeft R → (f : Conn → Conn) (ks : List Conn) → ((k : Conn) → Lesser (f k) k) → AllConns R ks → AllConns R (map f ks)
 all_less R left f [] less all = tt
 all_less R left f (k ∷ ks) less all = (left (f k) k (less k) all.0, all_less R left f ks less all.1)
 
-walk : (R : Conn → Type 0) → IsLeft R → Walk (OnConns R)
+pub walk : (R : Conn → Type 0) → IsLeft R → Walk (OnConns R)
 unfolding on_exchange
 walk R left = record {
   clients = λ f is v h. h;
@@ -105,18 +105,18 @@ module _ (k : Conn) where
   abbrev w : Walk (OnConns (IsUnanswered k.number))
   w = walk (IsUnanswered k.number) (none_left k.number)
 
-  closed : (counts : Bool) (s : State) → Holds (OnConns (IsUnanswered k.number)) (close_conn counts k s)
+  pub closed : (counts : Bool) (s : State) → Holds (OnConns (IsUnanswered k.number)) (close_conn counts k s)
   unfolding close_conn
   closed counts s = each_exchange-keeps w (lose_place _) (λ e t h. lose_place-keeps w _ e t h) k.line _ (cleared k.number (λ j. record j { is_closing = true; line = []; answer = None; unread = [] }) s (λ j. refl))
 
-  finished_none : (e : Exchange) (a : Answer) (s : State) → Holds (OnConns (IsUnanswered k.number)) (finish k e a s)
+  pub finished_none : (e : Exchange) (a : Answer) (s : State) → Holds (OnConns (IsUnanswered k.number)) (finish k e a s)
   unfolding finish
   finished_none e a s = when (may_go_on e a.head) done (close_this-keeps w k.number _ done)
     where
       done : Holds (OnConns (IsUnanswered k.number)) (on_conn k.number (rested a.head) (end_exchange e.number (skip_body e (pour e finished s))))
       done = cleared k.number (rested a.head) (end_exchange e.number (skip_body e (pour e finished s))) (λ j. refl)
 
-  bad_none : (s : State) → Holds (OnConns (IsUnanswered k.number)) (bad_response k s)
+  pub bad_none : (s : State) → Holds (OnConns (IsUnanswered k.number)) (bad_response k s)
   unfolding bad_response
   bad_none s = each_of (front_of_line s k) (closed false s) (λ e. closed false (end_exchange e.number (fail e s)))
 

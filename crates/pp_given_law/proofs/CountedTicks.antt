@@ -97,11 +97,11 @@ module _ (n c : ℕ) where
   unfolding charge
   charges cost e s h = without_row_of e _ (on_asker e (λ d. record d { course = cost d.course }) s h)
 
-  loses : (e : Exchange) (s : State) → P s → P (lose_attempt e s)
+  pub loses : (e : Exchange) (s : State) → P s → P (lose_attempt e s)
   unfolding lose_attempt
   loses e s h = charges (lost_one (attempts_of e)) e s h
 
-  fails : (e : Exchange) (s : State) → P s → P (fail e s)
+  pub fails : (e : Exchange) (s : State) → P s → P (fail e s)
   unfolding fail
   fails e s h = charges out_of_tries e s h
 

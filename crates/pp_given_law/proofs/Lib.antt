@@ -29,4 +29,7 @@ pub mod CountedData
 pub mod CountedPieces
 pub mod CountedHeads
 pub mod LinesAnswered
+pub mod CameFew
+pub mod MomentsRoom
 pub mod CountedMoments
+pub mod CountedWhole

@@ -1,8 +1,8 @@
 -- Of what is dropped as much is counted as came, behind the rest of a turn but its decisions and rounds (ours).
 --
 -- What the turn shows of the law's state does not tell how much is counted: an exchange whose body is dropped shows the law's, whatever it
--- counts (DropsAreNone of `pp_flow_law`). So each of these carries it on; `Writes` and `Ends` have it behind writes, and where an origin ends.
--- Not said: the read of an origin that brings bytes.
+-- counts (DropsAreNone of `pp_flow_law`). So each of these carries it on; `Writes` and `Ends` have it behind writes, and where an origin ends, and
+-- `Reads` behind the read of an origin that brings bytes.
 use Rattle.std.specs.Prelude.{◌≡◌, ℕ, Bool, true, false, [], ◌∷◌, Some, ⊤}
 use Rattle.pp_events_law.specs.Silent.{IsSilentlyHandled, stopped}
 use Rattle.pp_events_law.specs.Stands.{HasLedBehind, StandsAtEvent, come}

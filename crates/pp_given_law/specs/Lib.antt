@@ -7,4 +7,6 @@ pub mod MayNote
 pub mod Begins
 pub mod Writes
 pub mod Ends
+pub mod Came
 pub mod Pieces
+pub mod Reads

@@ -2,9 +2,8 @@
 -- a body so many bytes more as its data are (RFC 2616, sections 4.4 and 8.1.4; ours).
 --
 -- Where the premises come from: that a head came of the first of a line alone, whose answer is under way, is of each moment of a read
--- (LinesAreAnsweredInReads); that both sides are shown, that the data may go (MayGo), and for each head HeadLeads and MayEnd, as in Brings of `pp_reads_law`.
--- That so many bytes can be counted has no source yet: what is dropped is read no further than 65,536 bytes (drop_limit of the law) and one read,
--- as its connection is closed then.
+-- (LinesAreAnsweredInReads); what a step rested on stands at it (Brings of `pp_reads_law`), and for each head HeadLeads comes of that (HeadsComeAsTheLaws);
+-- that so many bytes can be counted is of a short log (Came).
 use Rattle.std.specs.Prelude.{◌≡◌, ◌≤◌, ◌-◌, ◌^◌, ◌++◌, ℕ, true, false, length, List, Some, None}
 use Rattle.pp_framing.specs.Rules.{body_of}
 use Rattle.pp_law.specs.Connections.{conn, exchange, front_of_line}
@@ -24,6 +23,7 @@ use Rattle.pp_stays_law.specs.Turns.{AreCounted}
 use Rattle.pp_store.specs.Kept.{KeptMap}
 use Rattle.pp_turns_law.specs.Sides.{ShowsSides}
 use Rattle.pp_world.specs.Log.{Log}
+use Rattle.pp_given_law.specs.Came.{HasRoomToCount}
 
 -- it stands in the line of a connection
 pub record IsInLine (s : State) (n m : ℕ) (k : Conn) (e : Exchange) : Type 0 where
@@ -58,30 +58,13 @@ CountedBehindPieces = (number : ℕ → ℕ) (name : Bytes) (shelf : KeptMap) (n
 
 -- it is taken, or refused; and an empty body may end with it
 abbrev pub CountedBehindHeads : Type 0
-CountedBehindHeads = (number : ℕ → ℕ) (name : Bytes) (shelf : KeptMap) (n : ℕ) (x next : Both) (s t : State) (bytes rest : Bytes) → (it : IsBehindHead shelf n x s bytes next t rest) → ShowsSides number name (sides_of next) t
+CountedBehindHeads = (number : ℕ → ℕ) (name : Bytes) (shelf : KeptMap) (n : ℕ) (x next : Both) (s t : State) (bytes rest : Bytes) → (it : IsBehindHead name shelf n x s bytes next t rest) → ShowsSides number name (sides_of next) t
     → HeadLeads it.number (is_wrong_head it.exchange it.it.head) it.there.begin it.head it.there.then n it.there.before it.exchange it.it.head it.it.rule → (is_wrong_head it.exchange it.it.head ≡ false → MayEnd it.there.then it.there.before it.exchange it.it.head it.it.rule)
     → LinesAreAnswered s → LinesAreAnswered t → AreCounted x.state s → AreCounted next.state t
 
 -- ---- at each moment of a read
 
--- behind this head, and behind this piece, what it rests on
-pub record HeadIsSupplied (name : Bytes) (shelf : KeptMap) (n : ℕ) (x next : Both) (s t : State) (bytes rest : Bytes) (it : IsBehindHead shelf n x s bytes next t rest) : Type 0 where
-  pub number : ℕ → ℕ
-  pub shows : ShowsSides number name (sides_of next) t
-  pub leads : HeadLeads it.number (is_wrong_head it.exchange it.it.head) it.there.begin it.head it.there.then n it.there.before it.exchange it.it.head it.it.rule
-  pub ends : is_wrong_head it.exchange it.it.head ≡ false → MayEnd it.there.then it.there.before it.exchange it.it.head it.it.rule
-
-pub record PieceIsSupplied (name : Bytes) (shelf : KeptMap) (n : ℕ) (x next : Both) (s t : State) (bytes rest : Bytes) (it : IsBehindPiece name shelf n x s bytes next t rest) : Type 0 where
-  pub number : ℕ → ℕ
-  pub shows : ShowsSides number name (sides_of x) s
-  pub may : MayGo x.state s it.exchange (data_in it.answer bytes)
-  pub count : CanBeCounted it.exchange (length (body_of it.answer.rule (it.answer.raw ++ bytes)).payload)
-
-pub record MomentsAreSupplied (name : Bytes) (shelf : KeptMap) (n : ℕ) (begins : Both) (from : State) (all : Bytes) : Type 0 where
-  pub lines : (pieces : ℕ) (x : Both) (s : State) (bytes : Bytes) → IsMoment pieces name shelf n begins from all x s bytes → LinesAreAnswered s
-  pub heads : (pieces : ℕ) (x next : Both) (s t : State) (bytes rest : Bytes) → IsMoment pieces name shelf n begins from all x s bytes → (it : IsBehindHead shelf n x s bytes next t rest) → HeadIsSupplied name shelf n x next s t bytes rest it
-  pub bodies : (pieces : ℕ) (x next : Both) (s t : State) (bytes rest : Bytes) → IsMoment pieces name shelf n begins from all x s bytes → (it : IsBehindPiece name shelf n x s bytes next t rest) → PieceIsSupplied name shelf n x next s t bytes rest it
-
+-- where the read is owed, and all that it brings can be counted
 abbrev pub CountedAtMoments : Type 0
-CountedAtMoments = (name : Bytes) (shelf : KeptMap) (n : ℕ) (begins : Both) (from : State) (all : Bytes) → MomentsAreSupplied name shelf n begins from all → AreCounted begins.state from
+CountedAtMoments = (terms : List Term) (log : Log) (name : Bytes) (shelf : KeptMap) (n : ℕ) (begins : Both) (from : State) (all : Bytes) → Obeys terms from log → from.owed ≡ ReadOf n → HasRoomToCount from n all → AreCounted begins.state from
     → (pieces : ℕ) (x : Both) (s : State) (bytes : Bytes) → IsMoment pieces name shelf n begins from all x s bytes → AreCounted x.state s

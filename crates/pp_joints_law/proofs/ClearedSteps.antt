@@ -121,7 +121,7 @@ close_finished-clears : {o : State} (c : Client) (s : State) → Clears o s → 
 unfolding close_finished
 close_finished-clears c s h = when (is_finished c) (close_client-clears c.number false s h) h
 
-end_replies-clears : {o : State} (s : State) → Clears o s → Clears o (end_replies s)
+pub end_replies-clears : {o : State} (s : State) → Clears o s → Clears o (end_replies s)
 unfolding end_replies
 end_replies-clears s h = each_client-clears close_finished (λ c t ht. close_finished-clears c t ht) _ _ (each_client-clears end_said (λ c t ht. end_said-clears c t ht) _ s h)
 

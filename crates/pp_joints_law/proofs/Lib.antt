@@ -19,6 +19,12 @@ pub mod DeskBehind
 pub mod DeskLosses
 pub mod Done
 pub mod Ends
+pub mod Enough
+pub mod EnoughLogs
+pub mod EnoughMarks
+pub mod EnoughSteps
+pub mod EnoughTurns
+pub mod Evictions
 pub mod FewNames
 pub mod Given
 pub mod Kept
@@ -26,10 +32,10 @@ pub mod LawBehind
 pub mod LawLeft
 pub mod LawLosses
 pub mod Left
+pub mod LinesAlone
 pub mod LinesShrink
 pub mod LoadedSo
 pub mod Losses
-pub mod Marked
 pub mod MomentsAll
 pub mod MomentsHeads
 pub mod MomentsKept
@@ -37,6 +43,7 @@ pub mod MomentsLines
 pub mod MomentsPieces
 pub mod Names
 pub mod Near
+pub mod NoMore
 pub mod NotedBehind
 pub mod NotedBeside
 pub mod NotedCome
@@ -61,6 +68,8 @@ pub mod OpenedWait
 pub mod OpenedWords
 pub mod OwedSo
 pub mod ReadsBegin
+pub mod ReadsCome
+pub mod ReadsLeft
 pub mod Resting
 pub mod PlacesFew
 pub mod Roomier

@@ -1,10 +1,10 @@
 -- From one moment of a read to the next, behind a head: what is noted, and what has to leave memory, are the same in both.
-use Rattle.std.proofs.Common.{◌≡◌, ◌≤◌, ◌<◌, ◌+◌, ◌⊎◌, inl, inr, refl, sym, subst, ap, ◌∙◌, ℕ, ◌-◌, Bool, true, false, find, length, min, List, [], Option, arith, le_trans}
+use Rattle.std.proofs.Common.{◌≡◌, ◌≤◌, ◌<◌, ◌+◌, ◌⊎◌, inl, inr, refl, sym, subst, ap, ◌∙◌, ℕ, ◌-◌, Bool, true, false, find, length, min, List, [], Option, arith, le_refl, le_trans}
 use Rattle.std.specs.Prelude.{count_by}
 use Rattle.pp_answers_law.specs.Fills.{PartHeadsAreTheLaws}
 use Rattle.pp_answers_law.specs.Takes.{OwnAnswersAreTheLaws, PartAnswersAreTheLaws, PassedAnswersAreTheLaws, RulesAreTheLaws}
 use Rattle.pp_cache_law.specs.Outdated.{AreNamed, AreNoted}
-use Rattle.pp_cache_law.specs.Tables.{ShowsTable}
+use Rattle.pp_cache_law.specs.Tables.{ShowsChunk, ShowsTable}
 use Rattle.pp_desk.specs.Closings.{Sides}
 use Rattle.pp_framing.specs.Body.{Outcome, Done, Going, Bad as NoBody}
 use Rattle.pp_framing.specs.Rules.{body_of}
@@ -39,14 +39,15 @@ use Rattle.pp_joints_law.proofs.BytesSteps.{head_on_turn, step_on}
 use Rattle.pp_joints_law.proofs.ClearedLaw.{Cleared, Clears, clears_none, facts_of}
 use Rattle.pp_joints_law.proofs.ClearedParts.{itself, ClearsIn, clears_as}
 use Rattle.pp_joints_law.proofs.ClearedSteps.{finish-clears}
+use Rattle.pp_joints_law.proofs.Evictions.{alike_still, few_in_both, lengths}
 use Rattle.pp_joints_law.proofs.FewNames.{rows_note_few}
-use Rattle.pp_joints_law.proofs.Marked.{marks_stay}
 use Rattle.pp_joints_law.proofs.MomentsKept.{disk_by, framed_to}
+use Rattle.pp_joints_law.proofs.NoMore.{no_more_are_used}
 use Rattle.pp_joints_law.proofs.NotedBehind.{noted_still, rows_show, tidy_shown}
-use Rattle.pp_joints_law.proofs.NotedCome.{head_few, heads_tie, taken_there}
-use Rattle.pp_joints_law.proofs.NotedRefused.{refused_heads_tie, refused_there, bads_clear}
+use Rattle.pp_joints_law.proofs.NotedCome.{head_few, heads_tie, taken_evicting, taken_there}
+use Rattle.pp_joints_law.proofs.NotedRefused.{bads_clear, refused_evicting, refused_heads_tie, refused_there}
 use Rattle.pp_joints_law.proofs.TiedEnds.{wholes_tie, wholes_few}
-use Rattle.pp_joints_law.specs.DataTies.{IsMarked}
+use Rattle.pp_joints_law.specs.DataTies.{EvictAlike, IsNoMore}
 use Rattle.pp_joints_law.specs.HeadsNote.{IsTied, others_told}
 use Rattle.pp_joints_law.specs.MomentsNote.{HasRoomFor, HeadsNoteOn, IsOnShelf, NotesAt}
 
@@ -57,18 +58,18 @@ record IsAlike (s t : State) : Type 0 where
   displaced : t.displaced ≡ s.displaced
   forgotten : t.forgotten ≡ s.forgotten
   evicting : t.is_evicting ≡ s.is_evicting
-  marked : IsMarked s → IsMarked t
+  chunks : t.chunks ≡ s.chunks
 
 alike : (s : State) (n : ℕ) (k before : Conn) (t : State) → IsClearedTo s n k before t → IsAlike s t
 unfolding on_conn
-alike s n k before t (inl is) = subst (λ (u : State). IsAlike s u) (sym is.1) (record { entries = refl; displaced = refl; forgotten = refl; evicting = refl; marked = λ m. m })
-alike s n k before t (inr is) = subst (λ (u : State). IsAlike s u) (sym is.1) (record { entries = refl; displaced = refl; forgotten = refl; evicting = refl; marked = λ m. m })
+alike s n k before t (inl is) = subst (λ (u : State). IsAlike s u) (sym is.1) (record { entries = refl; displaced = refl; forgotten = refl; evicting = refl; chunks = refl })
+alike s n k before t (inr is) = subst (λ (u : State). IsAlike s u) (sym is.1) (record { entries = refl; displaced = refl; forgotten = refl; evicting = refl; chunks = refl })
 
 tied_then : (p q : Turn) (s t : State) → q ≡ p → IsAlike s t → IsTied p s → IsTied q t
 tied_then p q s t same is tied = subst (λ (r : Turn). IsTied r t) (sym same) (record {
   noted = subst (λ (es : List KeptEntry). AreNoted p.cache.outdated t.displaced es) (sym is.entries) (subst (λ (ks : List Bytes). AreNoted p.cache.outdated ks s.entries) (sym is.displaced) tied.noted);
   named = subst (λ (es : List KeptEntry). AreNamed es) (sym is.entries) tied.named;
-  leaves = record { forgotten = tied.leaves.forgotten ∙ sym is.forgotten; evicting = tied.leaves.evicting ∙ sym is.evicting };
+  leaves = record { forgotten = tied.leaves.forgotten ∙ sym is.forgotten };
 })
 
 -- ---- an empty body ends with it in the law
@@ -82,14 +83,17 @@ ends_clear k e a s = by (body_of a.rule []).outcome
     by Going = clears_none s
     by NoBody = clears_none s
 
-ends_marked : (k : Conn) (e : Exchange) (a : Answer) (s : State) → IsMarked s → IsMarked (end_if_empty k e a s)
+no_more_then : (s t u : State) → IsNoMore s t → IsNoMore t u → IsNoMore s u
+no_more_then s t u one two = record { evicting = two.evicting ∙ one.evicting; few = le_trans two.few one.few }
+
+ends_no_more : (k : Conn) (e : Exchange) (a : Answer) (s : State) → IsNoMore s (end_if_empty k e a s)
 unfolding end_if_empty
-ends_marked k e a s marked = by (body_of a.rule []).outcome
+ends_no_more k e a s = by (body_of a.rule []).outcome
   where
-    by : (o : Outcome) → IsMarked (elim o as (λ t. State) [ Done rest ↦ finish k e a s | Going ↦ s | NoBody ↦ s ])
-    by (Done rest) = marks_stay.wholes k e a s marked
-    by Going = marked
-    by NoBody = marked
+    by : (o : Outcome) → IsNoMore s (elim o as (λ t. State) [ Done rest ↦ finish k e a s | Going ↦ s | NoBody ↦ s ])
+    by (Done rest) = no_more_are_used.wholes k e a s
+    by Going = record { evicting = refl; few = le_refl (length s.chunks) }
+    by NoBody = record { evicting = refl; few = le_refl (length s.chunks) }
 
 ends_now : (k : Conn) (e : Exchange) (a : Answer) (s : State) (over : Bytes) → (body_of a.rule []).outcome ≡ Done over → end_if_empty k e a s ≡ finish k e a s
 unfolding end_if_empty
@@ -102,7 +106,7 @@ tied_still p s t number other before behind cleared tied =
     record {
       noted = noted_still (parts p) (parts p) s t (rows_show number p.cache s before) (rows_show other p.cache t behind) (tidy_shown number p.cache s before) cleared (itself (parts p)) tied.named tied.noted;
       named = facts.named tied.named;
-      leaves = record { forgotten = tied.leaves.forgotten ∙ sym facts.forgotten_is; evicting = tied.leaves.evicting ∙ sym facts.evicting_is };
+      leaves = record { forgotten = tied.leaves.forgotten ∙ sym facts.forgotten_is };
     }
 
 -- ---- how many names it adds
@@ -121,7 +125,7 @@ pub record HeadAdds (k : Conn) (e : Exchange) (head : Response) (rule : BodyRule
 room_then : (m a b c : ℕ) → a ≤ b + c + (3 + m) → b + c + (3 + m) < 2048 → a < 2048
 room_then m a b c one two = omega (arith, one, two)
 
-module _ (rules : RulesAreTheLaws) (own : OwnAnswersAreTheLaws) (passed : PassedAnswersAreTheLaws) (part : PartAnswersAreTheLaws) (part_heads : PartHeadsAreTheLaws) (name : Bytes) (shelf : KeptMap) (n : ℕ) (x : Both) (s : State) (bytes : Bytes) (next : Both) (t : State) (rest : Bytes) (number : ℕ → ℕ) (it : IsBehindHead shelf n x s bytes next t rest)
+module _ (rules : RulesAreTheLaws) (own : OwnAnswersAreTheLaws) (passed : PassedAnswersAreTheLaws) (part : PartAnswersAreTheLaws) (part_heads : PartHeadsAreTheLaws) (name : Bytes) (shelf : KeptMap) (n : ℕ) (x : Both) (s : State) (bytes : Bytes) (next : Both) (t : State) (rest : Bytes) (number : ℕ → ℕ) (it : IsBehindHead name shelf n x s bytes next t rest)
     (rests : HeadRestsOn shelf n it.head s it.exchange bytes it.behind it.there.begin it.there.then it.there.before it.there.peer it.it) (calm : next.state.is_astray ≡ false) (shows : ShowsSides number name (sides_of next) t) (room : HasRoomFor (3 + others_told it.exchange it.it.head) x) (at : NotesAt shelf x s) where
   abbrev begin : Both
   begin = it.there.begin
@@ -153,9 +157,6 @@ module _ (rules : RulesAreTheLaws) (own : OwnAnswersAreTheLaws) (passed : Passed
   first : IsTied begin.state then
   first = tied_then x.state begin.state s then it.there.state is_alike at.tied
 
-  marked : IsMarked then
-  marked = is_alike.marked at.marked
-
   -- ---- of the program
 
   head_calm : it.head.state.is_astray ≡ false
@@ -174,6 +175,13 @@ module _ (rules : RulesAreTheLaws) (own : OwnAnswersAreTheLaws) (passed : Passed
       by : (next ≡ it.head) ⊎ ((after : Option Remains) × IsStepOn (going_on (find (is_number n) it.head.peers)) shelf n (remaining it.it.rest []) it.head next after) → next.state.trigger ≡ it.head.state.trigger
       by (inl same) = ap (λ (z : Both). z.state.trigger) same
       by (inr step) = ap (λ (p : Turn). p.trigger) (step_on (going_on (find (is_number n) it.head.peers)) shelf n (remaining it.it.rest []) it.head next step.0 step.1).set
+
+  next_floor : next.state.floor ≡ x.state.floor
+  next_floor = by it.then ∙ ap (λ (p : Turn). p.floor) (head_on_turn shelf n fed it.head it.it.came).set ∙ ap (λ (p : Turn). p.floor) it.there.state
+    where
+      by : (next ≡ it.head) ⊎ ((after : Option Remains) × IsStepOn (going_on (find (is_number n) it.head.peers)) shelf n (remaining it.it.rest []) it.head next after) → next.state.floor ≡ it.head.state.floor
+      by (inl same) = ap (λ (z : Both). z.state.floor) same
+      by (inr step) = ap (λ (p : Turn). p.floor) (step_on (going_on (find (is_number n) it.head.peers)) shelf n (remaining it.it.rest []) it.head next step.0 step.1).set
 
   given : IsGivenHead (first_on n (parts begin.state)) shelf n fed it.head it.it.came
   given = head_given (first_on n (parts begin.state)) shelf n fed it.head it.it.came head_calm
@@ -201,15 +209,28 @@ module _ (rules : RulesAreTheLaws) (own : OwnAnswersAreTheLaws) (passed : Passed
 
   -- ---- both
 
-  notes_with : IsTied next.state t → IsMarked t → NotesAt shelf next t
-  notes_with tied mark = record { tied = tied; marked = mark; set = next_set ∙ at.set ∙ sym same_trigger; disk = disk }
+  evicts : next.state.is_evicting ≡ begin.state.is_evicting → IsNoMore then t → EvictAlike next.state t
+  evicts mark no_more =
+      alike_still x.state next.state s t (record {
+        turn = mark ∙ ap (λ (p : Turn). p.is_evicting) it.there.state;
+        law = no_more.evicting ∙ is_alike.evicting;
+        trigger = next_set;
+        floor = next_floor;
+        few =
+            few_in_both (length next.state.cache.chunks) (length t.chunks) (length then.chunks) (length x.state.cache.chunks) (lengths (ShowsChunk number next.state.cache) next.state.cache.chunks t.chunks shows.steps.shows.table.table.chunks) no_more.few
+            (ap (λ (p : Turn). length p.cache.chunks) (sym it.there.state)
+            ∙ lengths (ShowsChunk it.number begin.state.cache) begin.state.cache.chunks then.chunks it.there.shows.read.turn.steps.shows.table.table.chunks);
+      }) at.evict
+
+  notes_with : IsTied next.state t → EvictAlike next.state t → NotesAt shelf next t
+  notes_with tied evict = record { tied = tied; evict = evict; set = next_set ∙ at.set ∙ sym same_trigger; disk = disk }
 
   leads : HeadLeads it.number (is_wrong_head e head) begin it.head then n before e head it.it.rule
   leads = heads_come rules own passed part it.number shelf begin it.head then n before e it.there.peer head it.it.rule it.it.left it.there.shows it.there.due it.it.read rests.may it.it.came given none head_calm
 
   -- it is refused: the connection is closed, and no step is taken any more
   wrong : is_wrong_head e head ≡ true → NotesAt shelf next t
-  wrong is = notes_with (by it.ends) (subst IsMarked (sym it.state) mark)
+  wrong is = notes_with (by it.ends) (evicts (mark it.ends) no_more)
     where
       tied : IsTied it.head.state (head_came before head then)
       tied = refused_heads_tie rules own passed part it.number shelf begin it.head then n before e it.there.peer head it.it.rule it.it.left it.there.shows it.there.due it.it.read rests.may room_begin it.it.came given none head_calm first is
@@ -221,12 +242,16 @@ module _ (rules : RulesAreTheLaws) (own : OwnAnswersAreTheLaws) (passed : Passed
       given_refused : RefusedHead shelf begin it.head then n before e head
       given_refused = refused_there rules own passed part it.number shelf begin it.head then n before e it.there.peer head it.it.rule it.it.left it.there.shows it.there.due it.it.read rests.may it.it.came given none is
 
-      mark : IsMarked (head_came before head then)
-      mark = subst IsMarked (sym (given_refused.law_is ∙ ap (λ (u : State). bad_head before u) given_refused.brought)) (marks_stay.refused before e head then marked)
+      no_more : IsNoMore then t
+      no_more = subst (λ (u : State). IsNoMore then u) (sym (it.state ∙ given_refused.law_is ∙ ap (λ (u : State). bad_head before u) given_refused.brought)) (no_more_are_used.refused before e head then)
+
+      mark : (next ≡ it.head) ⊎ ((is_wrong_head e head ≡ false) × ((body_of it.it.rule []).outcome ≡ Done [])) → next.state.is_evicting ≡ begin.state.is_evicting
+      mark (inl same) = ap (λ (z : Both). z.state.is_evicting) same ∙ refused_evicting shelf begin it.head then n before e head given_refused
+      mark (inr right) = absurd (let both : true ≡ false = sym is ∙ right.0 in cc both)
 
   -- it is taken
   right : is_wrong_head e head ≡ false → NotesAt shelf next t
-  right is = notes_with (by it.ends it.then) (subst IsMarked (sym (it.state ∙ taken.law)) (ends_marked before e a begun (marks_stay.taken before e head it.it.rule then marked)))
+  right is = notes_with (by it.ends it.then) (evicts (mark it.ends it.then) no_more)
     where
       taken : HeadIsTaken it.number begin it.head then n before e head it.it.rule
       taken = subst (λ (b : Bool). HeadLeads it.number b begin it.head then n before e head it.it.rule) is leads
@@ -241,6 +266,20 @@ module _ (rules : RulesAreTheLaws) (own : OwnAnswersAreTheLaws) (passed : Passed
       room_head =
           room_then others (length it.head.state.cache.outdated + count_by is_row it.head.state.cache.instances) (length begin.state.cache.outdated) (count_by is_row begin.state.cache.instances)
           (head_few shelf begin it.head then before e head it.it.rule there) room_begin
+
+      no_more : IsNoMore then t
+      no_more = subst (λ (u : State). IsNoMore then u) (sym (it.state ∙ taken.law)) (no_more_then then begun (end_if_empty before e a begun) (no_more_are_used.taken before e head it.it.rule then) (ends_no_more before e a begun))
+
+      head_mark : it.head.state.is_evicting ≡ begin.state.is_evicting
+      head_mark = taken_evicting shelf begin it.head then before e head it.it.rule there
+
+      mark : (next ≡ it.head) ⊎ ((is_wrong_head e head ≡ false) × ((body_of it.it.rule []).outcome ≡ Done [])) → (next ≡ it.head) ⊎ ((after : Option Remains) × IsStepOn (going_on (find (is_number n) it.head.peers)) shelf n (remaining it.it.rest []) it.head next after) → next.state.is_evicting ≡ begin.state.is_evicting
+      mark (inl same) step = ap (λ (z : Both). z.state.is_evicting) same ∙ head_mark
+      mark (inr over) (inl same) = ap (λ (z : Both). z.state.is_evicting) same ∙ head_mark
+      mark (inr over) (inr step) =
+          let whole : (fed : List Peer) × Makes (response_whole n) (record it.head { peers = fed }) next =
+          (ends_there it.number shelf begin it.head then n before e it.there.peer head it.it.rule it.there.shows.may it.there.due taken (rests.end is) next [] it.it.rest step.0 over.1 step.1).1 in
+          ap (λ (p : Turn). p.is_evicting) whole.1.rest ∙ head_mark
 
       -- nothing follows it yet
       stays : next ≡ it.head → IsTied next.state t
@@ -336,7 +375,7 @@ module _ (rules : RulesAreTheLaws) (own : OwnAnswersAreTheLaws) (passed : Passed
 pub heads_note_on : RulesAreTheLaws → OwnAnswersAreTheLaws → PassedAnswersAreTheLaws → PartAnswersAreTheLaws → PartHeadsAreTheLaws → HeadsNoteOn
 heads_note_on rules own passed part part_heads name shelf n x s bytes next t rest number it rests calm shows room at = notes_on rules own passed part part_heads name shelf n x s bytes next t rest number it rests calm shows room at
 
-pub head_adds : RulesAreTheLaws → OwnAnswersAreTheLaws → PassedAnswersAreTheLaws → PartAnswersAreTheLaws → PartHeadsAreTheLaws → (name : Bytes) (shelf : KeptMap) (n : ℕ) (x : Both) (s : State) (bytes : Bytes) (next : Both) (t : State) (rest : Bytes) (number : ℕ → ℕ) → (it : IsBehindHead shelf n x s bytes next t rest)
+pub head_adds : RulesAreTheLaws → OwnAnswersAreTheLaws → PassedAnswersAreTheLaws → PartAnswersAreTheLaws → PartHeadsAreTheLaws → (name : Bytes) (shelf : KeptMap) (n : ℕ) (x : Both) (s : State) (bytes : Bytes) (next : Both) (t : State) (rest : Bytes) (number : ℕ → ℕ) → (it : IsBehindHead name shelf n x s bytes next t rest)
     → HeadRestsOn shelf n it.head s it.exchange bytes it.behind it.there.begin it.there.then it.there.before it.there.peer it.it → next.state.is_astray ≡ false → ShowsSides number name (sides_of next) t → HasRoomFor (3 + others_told it.exchange it.it.head) x → NotesAt shelf x s
     → HeadAdds it.there.before it.exchange it.it.head it.it.rule it.there.then x next t
 head_adds rules own passed part part_heads name shelf n x s bytes next t rest number it rests calm shows room at = adds rules own passed part part_heads name shelf n x s bytes next t rest number it rests calm shows room at

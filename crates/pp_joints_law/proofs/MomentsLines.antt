@@ -20,7 +20,7 @@ use Rattle.pp_laws_pool.proofs.WalkHeads.{bring_row-keeps, by_aim-keeps}
 use Rattle.pp_reads_law.proofs.BehindFilling.{heads_note}
 use Rattle.pp_reads_law.proofs.Brings.{IsBeside, beside_brought}
 use Rattle.pp_reads_law.proofs.Fronts.{IsFront, is_front}
-use Rattle.pp_reads_law.specs.Empties.{IsBehindHead, NoneIsPassed}
+use Rattle.pp_reads_law.specs.Empties.{HasNotedBody, NoneIsPassed}
 use Rattle.pp_reads_law.specs.Heads.{begun_by}
 use Rattle.pp_reads_law.specs.Interims.{IsClearedTo}
 use Rattle.pp_states_law.specs.Readings.{with_raw}
@@ -96,7 +96,7 @@ module _ (n most : ℕ) (k : Conn) (e : Exchange) (head : Response) (rule : Body
     beside : IsBeside s brought
     beside = beside_brought e head s
 
-    headed : IsBehindHead e set begun
+    headed : HasNotedBody e set begun
     headed = heads_note set e head rule (λ filling c among asks. passed filling c (subst (λ (cs : List Client). IsIn c cs) ((set_conns k.number (answered_by a) brought).2 ∙ beside.clients) among) asks) (ap (λ (es : List Exchange). find (is_exchange e.number) es) ((set_conns k.number (answered_by a) brought).1 ∙ beside.exchanges) ∙ first.known)
 
     there_set : conn set n ≡ Some (answered_by a k)

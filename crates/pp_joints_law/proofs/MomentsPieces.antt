@@ -1,7 +1,7 @@
 -- From one moment of a read to the next, behind a piece of a body: what is noted, and what has to leave memory, are the same in both.
 use Rattle.std.proofs.Common.{◌≡◌, ◌≤◌, ◌<◌, ◌+◌, inl, inr, sym, subst, ap, ◌∙◌, ℕ, ◌-◌, length, min, le_refl, le_trans, arith}
 use Rattle.std.specs.Prelude.{count_by}
-use Rattle.pp_cache_law.specs.Tables.{ShowsTable}
+use Rattle.pp_cache_law.specs.Tables.{ShowsChunk, ShowsTable}
 use Rattle.pp_desk.specs.Closings.{Sides}
 use Rattle.pp_flow_law.specs.Tables.{none_leaves}
 use Rattle.pp_law.specs.Chunks.{trigger}
@@ -29,23 +29,24 @@ use Rattle.pp_store.specs.Kept.{KeptMap}
 use Rattle.pp_turns_law.specs.Sides.{ShowsSides}
 use Rattle.std.specs.List.{find}
 use Rattle.pp_joints_law.proofs.BytesSteps.{step_on}
-use Rattle.pp_joints_law.proofs.Marked.{marks_stay}
+use Rattle.pp_joints_law.proofs.Evictions.{alike_still, few_in_both, lengths}
 use Rattle.pp_joints_law.proofs.MomentsHeads.{names_in}
 use Rattle.pp_joints_law.proofs.MomentsKept.{disk_by, framed_to}
+use Rattle.pp_joints_law.proofs.NoMore.{no_more_are_used}
 use Rattle.pp_joints_law.proofs.TiedData.{data_few, data_tie}
 use Rattle.pp_joints_law.proofs.TiedEnds.{bad_bodies_tie, bads_few, wholes_few, wholes_tie}
-use Rattle.pp_joints_law.specs.DataTies.{IsMarked, IsTiedBehind}
+use Rattle.pp_joints_law.specs.DataTies.{EvictAlike, IsNoMore, IsTiedBehind}
 use Rattle.pp_joints_law.specs.HeadsNote.{IsTied}
 use Rattle.pp_joints_law.specs.MomentsNote.{HasRoomFor, NotesAt, PiecesNoteOn}
 
 -- a connection alone is changed
 conn_tied : (n : ℕ) (f : Conn → Conn) (p : Turn) (s : State) → IsTied p s → IsTied p (on_conn n f s)
 unfolding on_conn
-conn_tied n f p s tied = record { noted = tied.noted; named = tied.named; leaves = record { forgotten = tied.leaves.forgotten; evicting = tied.leaves.evicting } }
+conn_tied n f p s tied = record { noted = tied.noted; named = tied.named; leaves = record { forgotten = tied.leaves.forgotten } }
 
-conn_marked : (n : ℕ) (f : Conn → Conn) (s : State) → IsMarked s → IsMarked (on_conn n f s)
+conn_alike : (n : ℕ) (f : Conn → Conn) (p : Turn) (s : State) → EvictAlike p s → EvictAlike p (on_conn n f s)
 unfolding on_conn
-conn_marked n f s marked = marked
+conn_alike n f p s alike = alike
 
 module _ (name : Bytes) (shelf : KeptMap) (n : ℕ) (x : Both) (s : State) (bytes : Bytes) (next : Both) (t : State) (rest : Bytes) (number : ℕ → ℕ) (shows : ShowsSides number name (sides_of x) s) (it : IsBehindPiece name shelf n x s bytes next t rest)
     (may : MayGo x.state s it.exchange (data_in it.answer bytes)) (room : HasRoomFor 0 x) (at : NotesAt shelf x s) where
@@ -71,14 +72,14 @@ module _ (name : Bytes) (shelf : KeptMap) (n : ℕ) (x : Both) (s : State) (byte
     may_came = subst (λ (bs : Bytes). MayGo x.state s e bs) has.is_data may
 
     pub behind : IsTiedBehind between (then_by came)
-    behind = data_tie number name x.peers x.state between s n k e a (length (payload_of a)) came shows.steps on it.within.front may_came has.delivers at.set at.marked at.tied
+    behind = data_tie number name x.peers x.state between s n k e a (length (payload_of a)) came shows.steps on it.within.front may_came has.delivers at.set at.evict at.tied
 
     pub shown : ShowsSteps number name none_leaves x.peers (parts between) (then_by came)
     shown = data_come number name x.peers x.state between s n k e a (length (payload_of a)) came shows.steps on it.within.front may_came has.delivers
 
     pub room_between : length between.cache.outdated + count_by is_row between.cache.instances < 2048
     room_between =
-        subst (λ (m : ℕ). m < 2048) (sym (data_few number name x.peers x.state between s n k e a (length (payload_of a)) came shows.steps on it.within.front may_came has.delivers at.set at.marked at.tied))
+        subst (λ (m : ℕ). m < 2048) (sym (data_few number name x.peers x.state between s n k e a (length (payload_of a)) came shows.steps on it.within.front may_came has.delivers))
         (no_more (length x.state.cache.outdated) (count_by is_row x.state.cache.instances) room)
       where
         no_more : (b c : ℕ) → b + c + 0 < 2048 → b + c < 2048
@@ -87,7 +88,7 @@ module _ (name : Bytes) (shelf : KeptMap) (n : ℕ) (x : Both) (s : State) (byte
   -- ---- and behind them
 
   abbrev Ends : Type 0
-  Ends = IsTied next.state t × IsMarked t
+  Ends = IsTiedBehind next.state t
 
   law_at : (u : State) → (body_piece k a bytes s).state ≡ u → t ≡ u
   law_at u is = it.state ∙ is
@@ -95,24 +96,43 @@ module _ (name : Bytes) (shelf : KeptMap) (n : ℕ) (x : Both) (s : State) (byte
   goes_on : GoesOnBehind x next s n k a e bytes → Ends
   goes_on one =
       let both : IsTiedBehind next.state (then_by one.came) = behind one.came next.state one.has in
-      subst (λ (u : State). IsTied next.state u × IsMarked u) (sym (law_at (on_conn k.number (with_raw a bytes) (then_by one.came)) one.law_is))
-      (conn_tied k.number (with_raw a bytes) next.state (then_by one.came) both.tied, conn_marked k.number (with_raw a bytes) (then_by one.came) both.marked)
+      subst (λ (u : State). IsTiedBehind next.state u) (sym (law_at (on_conn k.number (with_raw a bytes) (then_by one.came)) one.law_is))
+      (record { tied = conn_tied k.number (with_raw a bytes) next.state (then_by one.came) both.tied; evict = conn_alike k.number (with_raw a bytes) next.state (then_by one.came) both.evict })
 
   is_over_by : (made : Sides → Sides) (law : State → State) → ((z : Both) (u : State) → ShowsTable number z.state.cache u → ShowsTable it.number next.state.cache (law u) → Makes made z next → length z.state.cache.outdated + count_by is_row z.state.cache.instances < 2048 → IsTied z.state u → IsTied next.state (law u))
-      → ((u : State) → IsMarked u → IsMarked (law u)) → IsOverBy made law x next s n k a e bytes → Ends
-  is_over_by made law ties marks one =
-      let both : IsTiedBehind one.between (then_by one.came) = behind one.came one.between one.has in
-      let same : t ≡ law (then_by one.came) = law_at (law (then_by one.came)) one.law_is in
-      subst (λ (u : State). IsTied next.state u × IsMarked u) (sym same) (
-        ties (record { state = one.between; peers = one.peers }) (then_by one.came) (shown one.came one.between one.has).shows.table.table
-            (subst (λ (u : State). ShowsTable it.number next.state.cache u) one.law_is it.over.shows.steps.shows.table.table) one.makes (room_between one.came one.between one.has) both.tied,
-        marks (then_by one.came) both.marked,
-      )
+      → ((u : State) → IsNoMore u (law u)) → IsOverBy made law x next s n k a e bytes → Ends
+  is_over_by made law ties no_more one = subst (λ (u : State). IsTiedBehind next.state u) (sym same) (record {
+    tied =
+        ties (record { state = one.between; peers = one.peers }) (then_by one.came) table table_behind one.makes (room_between one.came one.between one.has) both.tied;
+    evict =
+        alike_still one.between next.state (then_by one.came) (law (then_by one.came)) (record {
+          turn = ap (λ (p : Turn). p.is_evicting) one.makes.rest;
+          law = (no_more (then_by one.came)).evicting;
+          trigger = ap (λ (p : Turn). p.trigger) one.makes.rest;
+          floor = ap (λ (p : Turn). p.floor) one.makes.rest;
+          few =
+              few_in_both (length next.state.cache.chunks) (length (law (then_by one.came)).chunks) (length (then_by one.came).chunks) (length one.between.cache.chunks)
+              (lengths (ShowsChunk it.number next.state.cache) next.state.cache.chunks (law (then_by one.came)).chunks table_behind.chunks) (no_more (then_by one.came)).few
+              (lengths (ShowsChunk number one.between.cache) one.between.cache.chunks (then_by one.came).chunks table.chunks);
+        }) both.evict;
+  })
+    where
+      both : IsTiedBehind one.between (then_by one.came)
+      both = behind one.came one.between one.has
+
+      same : t ≡ law (then_by one.came)
+      same = law_at (law (then_by one.came)) one.law_is
+
+      table : ShowsTable number one.between.cache (then_by one.came)
+      table = (shown one.came one.between one.has).shows.table.table
+
+      table_behind : ShowsTable it.number next.state.cache (law (then_by one.came))
+      table_behind = subst (λ (u : State). ShowsTable it.number next.state.cache u) one.law_is it.over.shows.steps.shows.table.table
 
   ends : IsOver x next s n k a e bytes → Ends
   ends (inl one) = goes_on one
-  ends (inr (inl one)) = is_over_by (response_whole n) (λ u. finish k e a u) (λ z u before then makes few tied. wholes_tie number it.number n k e a z next u before then makes few tied) (λ u marked. marks_stay.wholes k e a u marked) one
-  ends (inr (inr one)) = is_over_by (bad_response n) (λ u. law_bad_response k u) (λ z u before then makes few tied. bad_bodies_tie number it.number n k e a z next u before then makes few tied) (λ u marked. marks_stay.bodies k u marked) one
+  ends (inr (inl one)) = is_over_by (response_whole n) (λ u. finish k e a u) (λ z u before then makes few tied. wholes_tie number it.number n k e a z next u before then makes few tied) (λ u. no_more_are_used.wholes k e a u) one
+  ends (inr (inr one)) = is_over_by (bad_response n) (λ u. law_bad_response k u) (λ z u before then makes few tied. bad_bodies_tie number it.number n k e a z next u before then makes few tied) (λ u. no_more_are_used.bodies k u) one
 
   -- ---- what stays
 
@@ -131,14 +151,14 @@ module _ (name : Bytes) (shelf : KeptMap) (n : ℕ) (x : Both) (s : State) (byte
   both = ends (piece_is_over number name shelf n x s bytes next t rest shows it may)
 
   notes_on : NotesAt shelf next t
-  notes_on = record { tied = both.0; marked = both.1; set = set ∙ at.set ∙ sym same_trigger; disk = disk_by shelf 1 0 n bytes rest s t law_is at.disk }
+  notes_on = record { tied = both.tied; evict = both.evict; set = set ∙ at.set ∙ sym same_trigger; disk = disk_by shelf 1 0 n bytes rest s t law_is at.disk }
 
   -- ---- no more names
 
   few_between : (came : Bytes) (between : Turn) → HasCome x n a bytes came between → length between.cache.outdated + count_by is_row between.cache.instances ≤ names_in x
   few_between came between has =
       subst (λ (m : ℕ). m ≤ names_in x)
-      (sym (data_few number name x.peers x.state between s n k e a (length (payload_of a)) came shows.steps on it.within.front (may_came came between has) has.delivers at.set at.marked at.tied))
+      (sym (data_few number name x.peers x.state between s n k e a (length (payload_of a)) came shows.steps on it.within.front (may_came came between has) has.delivers))
       (le_refl (names_in x))
 
   few : names_in next ≤ names_in x

@@ -1,11 +1,17 @@
--- The row of its key that comes in beside a head: of the program it notes nothing, and of the law there is one row more, or none.
+-- The row of its key that comes in beside a head: of the program it notes nothing, and of the law there is one row more, or none. Neither it nor the
+-- head that is taken begins eviction.
 use Rattle.std.proofs.Common.{◌≡◌, ◌≤◌, ◌+◌, inl, inr, refl, sym, subst, ap, ◌∙◌, ℕ, Bool, true, false, not, cond, find, nat_le, nat_lt, List, [], ◌∷◌, ◌++◌, Option, Some, None, arith}
 use Rattle.std.proofs.lemmas.Slice.Eq.{bytes_eq-Decides}
 use Rattle.std.specs.Prelude.{count_by}
+use Rattle.pp_answers.specs.FinalHeads.{roomed, roomed_for, version_in}
+use Rattle.pp_answers.specs.Rows.{with_room_for}
 use Rattle.pp_cache.specs.Memory.{Memory, with_row}
 use Rattle.pp_cache_law.proofs.PairLemmas.{count_first, count_joined}
 use Rattle.pp_due.specs.Entering.{HasRowFor, MayCome, with_room_if_over}
 use Rattle.pp_due.specs.OnDisk.{IsBrought, kept_alone, with_kept}
+use Rattle.pp_flow.specs.declared.entry.Aim.{Aim as EntryAim}
+use Rattle.pp_flow.specs.declared.entry.Aim.TheVariants.{Own as OfItself, Hole, Pass as AsPassed}
+use Rattle.pp_flow.specs.declared.errand.Errand.{Errand}
 use Rattle.pp_fresh.specs.declared.aging.Times.{Times}
 use Rattle.pp_head.specs.Response.{Response}
 use Rattle.pp_law.specs.Lists.{Bytes, without}
@@ -16,6 +22,8 @@ use Rattle.pp_law.specs.Table.{add_row, enter, forget, forget_row, idle_row as l
 use Rattle.pp_objects.specs.Instances.{Instance, is_row}
 use Rattle.pp_objects.specs.declared.id.ObjectId.{ObjectId}
 use Rattle.pp_state.specs.Astray.{gone_astray}
+use Rattle.pp_state.specs.Ends.{parts}
+use Rattle.pp_state.specs.Known.{row_for}
 use Rattle.pp_state.specs.Pins.{forgotten_row, idle_row, with_room}
 use Rattle.pp_state.specs.declared.state.State.{State as Turn}
 use Rattle.pp_store.specs.Kept.{Kept, KeptMap}
@@ -68,6 +76,21 @@ beside_alike shelf (Some key) p q it =
     let two : IsAlike it.entered (with_room_if_over it.entered) = over_alike it.entered in
     alike_as p (with_room_if_over it.entered) q it.room (record { noted = two.noted ∙ one.noted; evicting = two.evicting ∙ one.evicting })
 
+-- ---- of the program: a head that is taken begins no eviction
+
+for_row : (o : Option (ObjectId × Version)) (p : Turn) → (with_room_for o p).is_evicting ≡ p.is_evicting
+for_row None p = (room_alike p).evicting
+for_row (Some row) p = refl
+
+for_version : (o : Option Version) (n : ℕ) (p : Turn) → (roomed o n p).is_evicting ≡ p.is_evicting
+for_version None n p = refl
+for_version (Some v) n p = for_row (row_for n (parts p)) p
+
+pub roomed_evicting : (head : Response) (a : EntryAim) (errand : Errand) (n : ℕ) (p : Turn) → (roomed_for a errand head n p).is_evicting ≡ p.is_evicting
+roomed_evicting head OfItself errand n p = for_version (version_in errand head) n p
+roomed_evicting head (Hole v from to) errand n p = for_version (version_in errand head) n p
+roomed_evicting head AsPassed errand n p = refl
+
 -- ---- of the law: one row more, or none; and where none stands of its key, none came in
 
 without_fewer : (q : Known → Bool) (test : Known → Bool) (xs : List Known) → count_by q (without test xs) ≤ count_by q xs
@@ -96,11 +119,10 @@ added_more key v fields times b s = count_joined (λ (y : Known). not y.is_retir
 
 pub record IsEntered (key : Bytes) (s t : State) : Type 0 where
   pub few : rows t ≤ rows s + 1
-  pub evicting : t.is_evicting ≡ s.is_evicting
   pub none : row t key ≡ None → t ≡ s
 
 entered_none : (key : Bytes) (s : State) → IsEntered key s s
-entered_none key s = record { few = omega arith; evicting = refl; none = λ is. refl }
+entered_none key s = record { few = omega arith; none = λ is. refl }
 
 last_found : (p : Known → Bool) (xs : List Known) (x : Known) → p x ≡ true → find p (xs ++ x ∷ []) ≡ None → ⊥
 last_found p [] x is none = absurd (let both : Some x ≡ None = sym (ap (λ (b : Bool). cond b (Some x) None) is) ∙ none in cc both)
@@ -114,19 +136,6 @@ there_then : (key : Bytes) (v : Version) (fields : List Field) (times : Times) (
 unfolding add_row
 there_then key v fields times b s none = last_found (is_row_of key) s.instances _ ((bytes_eq-Decides key key).1 refl) none
 
-room_evicting : (s : State) → (law_with_room s).is_evicting ≡ s.is_evicting
-unfolding law_with_room forget_row forget
-room_evicting s = by (nat_lt (rows s) 1024) (law_idle s)
-  where
-    by : (b : Bool) (o : Option Known) → (elim b as (λ t. State) [ true ↦ s | false ↦ elim o as (λ t. State) [ None ↦ s | Some x ↦ forget_row x s ] ]).is_evicting ≡ s.is_evicting
-    by true o = refl
-    by false None = refl
-    by false (Some x) = refl
-
-added_evicting : (key : Bytes) (v : Version) (fields : List Field) (times : Times) (b : Bool) (s : State) → (add_row key v fields times b s).is_evicting ≡ s.is_evicting
-unfolding add_row
-added_evicting key v fields times b s = refl
-
 enters : (key : Bytes) (s : State) → IsEntered key s (enter key true s)
 unfolding enter
 enters key s = by (row s key) (row_on_disk s key)
@@ -136,7 +145,6 @@ enters key s = by (row s key) (row_on_disk s key)
     by None None = entered_none key s
     by None (Some e) = record {
       few = omega (arith, added_more key e.version e.fields e.times true (law_with_room s), room_fewer s);
-      evicting = added_evicting key e.version e.fields e.times true (law_with_room s) ∙ room_evicting s;
       none = λ is. absurd (there_then key e.version e.fields e.times true (law_with_room s) is);
     }
 

@@ -49,7 +49,7 @@ use Rattle.pp_store.specs.Kept.{KeptMap}
 use Rattle.pp_target.specs.Key.{Key, text_of}
 use Rattle.pp_valid.specs.declared.version.Version.{Version}
 use Rattle.pp_joints_law.proofs.FewNames.{heads_note_few, rows_note_few}
-use Rattle.pp_joints_law.proofs.NotedBeside.{IsAlike, IsEntered, beside_alike, brings}
+use Rattle.pp_joints_law.proofs.NotedBeside.{IsAlike, IsEntered, beside_alike, brings, roomed_evicting}
 use Rattle.pp_joints_law.proofs.NotedHeads.{SameEntries, own_notes}
 use Rattle.pp_joints_law.proofs.NotedParts.{filling_notes}
 use Rattle.pp_joints_law.proofs.NotedPlaces.{naming_notes}
@@ -110,10 +110,6 @@ aimed_is e head rule s = refl
 conn_same : (n : ℕ) (f : Conn → Conn) (s : State) → SameEntries s (on_conn n f s)
 unfolding on_conn
 conn_same n f s = record { entries = refl; displaced = refl }
-
-conn_left : (n : ℕ) (f : Conn → Conn) (s : State) → (on_conn n f s).is_evicting ≡ s.is_evicting
-unfolding on_conn
-conn_left n f s = refl
 
 conn_rows : (n : ℕ) (f : Conn → Conn) (s : State) → rows (on_conn n f s) ≡ rows s
 unfolding on_conn
@@ -187,6 +183,9 @@ module _ (shelf : KeptMap) (x y : Both) (s : State) (k : Conn) (e : Exchange) (h
       others : others_in entry.exchange.aim entry.errand.is_safe head ≤ others_told e head
       others = subst (λ (b : Bool). others_in entry.exchange.aim entry.errand.is_safe head ≤ others_named b head) (invalidates_same given.number entry e head shown) (others_of entry.exchange.aim)
 
+  pub taken_evicting : y.state.is_evicting ≡ x.state.is_evicting
+  taken_evicting = ap (λ (q : Turn). q.is_evicting) given.rest ∙ roomed_evicting head entry.exchange.aim entry.errand entry.exchange.number p ∙ alike.evicting
+
   its_aim : (a : EntryAim) → entry.exchange.aim ≡ a → e.aim ≡ aim_of a
   its_aim a is = sym shown.aim ∙ ap (λ (b : EntryAim). aim_of b) is
 
@@ -201,7 +200,7 @@ module _ (shelf : KeptMap) (x y : Both) (s : State) (k : Conn) (e : Exchange) (h
         (subst (λ (ks : List Bytes). AreNoted p.cache.outdated ks s.entries) (sym displaced) (subst (λ (ns : List Bytes). AreNoted ns s.displaced s.entries) (sym alike.noted) tied.noted))
 
     leaves_then : LeavesAsTheLaw p u
-    leaves_then = record { forgotten = given.forgotten; evicting = alike.evicting ∙ tied.leaves.evicting ∙ sym (entered.evicting ∙ conn_left k.number (answered_by (answer_with e head rule)) s) }
+    leaves_then = record { forgotten = given.forgotten }
 
     room_then : (more : ℕ) → more ≤ others_told e head + 2 → MayNoteMore more (parts p)
     room_then more less =
@@ -224,10 +223,7 @@ module _ (shelf : KeptMap) (x y : Both) (s : State) (k : Conn) (e : Exchange) (h
     tied_as a v is noted leaves = record {
       noted = subst (λ (ns : List Bytes). AreNoted ns v.displaced v.entries) (sym last_noted) noted.0;
       named = noted.1;
-      leaves = record {
-        forgotten = ap (λ (q : Turn). q.forgotten) given.rest ∙ ap (λ (b : EntryAim). (roomed_as b).forgotten) is ∙ leaves.forgotten;
-        evicting = ap (λ (q : Turn). q.is_evicting) given.rest ∙ ap (λ (b : EntryAim). (roomed_as b).is_evicting) is ∙ leaves.evicting;
-      };
+      leaves = record { forgotten = ap (λ (q : Turn). q.forgotten) given.rest ∙ ap (λ (b : EntryAim). (roomed_as b).forgotten) is ∙ leaves.forgotten };
     }
 
     owns : entry.exchange.aim ≡ OfItself → IsTied y.state (own_head e head rule u)
@@ -241,7 +237,6 @@ module _ (shelf : KeptMap) (x y : Both) (s : State) (k : Conn) (e : Exchange) (h
     may_pass one = record {
       client = λ goes. let it = one.client goes in record { number = it.number; client = it.client; asker = it.asker; there = ap (λ (cs : List Client). find (is_client it.number) cs) clients ∙ it.there };
       key = λ m c asks found. one.key m c asks (sym (ap (λ (cs : List Client). find (is_client m) cs) clients) ∙ found);
-      short = one.short;
     }
 
     straight_then : between.is_astray ≡ false
@@ -265,7 +260,7 @@ module _ (shelf : KeptMap) (x y : Both) (s : State) (k : Conn) (e : Exchange) (h
         }) (λ changes. keyed given.number name none_leaves given.peers (parts p) u given.at.shows e.number entry e head given.at.answered given.at.stands given.at.asks may changes) (room_then (others_told e head + 1) (omega arith)) head_passes
         (each_read (invalidates entry.errand.is_safe head) (key_in_flow entry.exchange.number p.flow) entry.errand.place.path head (parts p) head_passes.outdated.between head_passes.outdated.invalidated
         (passed_straight name entry head rule (parts p) between head_passes straight_then)) named_then noted_then)
-        (record { forgotten = leaves_then.forgotten ∙ sym left.forgotten; evicting = leaves_then.evicting ∙ sym left.evicting })
+        (record { forgotten = leaves_then.forgotten ∙ sym left.forgotten })
 
     fills : (v : Version) (from to : ℕ) → entry.exchange.aim ≡ Hole v from to → IsTied y.state (filling_head e head rule u)
     fills v from to aim_is =

@@ -10,7 +10,7 @@ use Rattle.pp_answers_law.proofs.Sites.{names_same}
 use Rattle.pp_answers_law.proofs.Through.{IsLeft, law_invalidated_if, law_invalidated_is}
 use Rattle.pp_answers_law.proofs.Useless.{key_is}
 use Rattle.pp_answers_law.specs.Naming.{named_at}
-use Rattle.pp_answers_law.specs.Outdates.{AreShort, IsKeyed, WereRead, WereReadIf, WereReadOf}
+use Rattle.pp_answers_law.specs.Outdates.{IsKeyed, WereRead, WereReadIf, WereReadOf}
 use Rattle.pp_answers_law.specs.Throughs.{IsPassed}
 use Rattle.pp_cache.specs.Named.{site_of}
 use Rattle.pp_flow.specs.declared.entry.Entry.{Entry}
@@ -68,13 +68,13 @@ of_more (Some key) p s few = cleared_more key p s few
 left_room : (a b c m : ℕ) → a + b + (1 + m) < 2048 → c ≤ a + b + 1 → c + m < 2048
 left_room a b c m room few = omega (arith, room, few)
 
-each_more : (e : Exchange) (target : Bytes) (texts : List Bytes) (p new : Parts) (s : State) → key_at target ≡ Ok e.key → AreShort (site_of e.key) texts → (cleared : ClearsEach (site_of e.key) texts p new) → WereRead (site_of e.key) texts p new cleared → sum p + length texts < 2048
+each_more : (e : Exchange) (target : Bytes) (texts : List Bytes) (p new : Parts) (s : State) → key_at target ≡ Ok e.key → (cleared : ClearsEach (site_of e.key) texts p new) → WereRead (site_of e.key) texts p new cleared → sum p + length texts < 2048
     → NotesMore (length texts) p new s (clear_each e.key texts s)
-each_more e target [] p new s key short cleared were room = more_none p new s (clear_each e.key [] s) cleared (each_none e.key s)
-each_more e target (text ∷ texts) p new s key short cleared were room =
+each_more e target [] p new s key cleared were room = more_none p new s (clear_each e.key [] s) cleared (each_none e.key s)
+each_more e target (text ∷ texts) p new s key cleared were room =
     more_as (1 + length texts) (length (text ∷ texts)) p new new s (clear_each e.key texts (clear_named e.key text s)) (clear_each e.key (text ∷ texts) s) (omega arith) refl (each_first e.key text texts s)
     (more_then 1 (length texts) p cleared.0 new s (clear_named e.key text s) (clear_each e.key texts (clear_named e.key text s)) first
-    (each_more e target texts cleared.0 new (clear_named e.key text s) key short.1 cleared.2 were.1 (left_room (length p.cache.outdated) (count_by is_row p.cache.instances) (sum cleared.0) (length texts) (omega (arith, room)) first.few)))
+    (each_more e target texts cleared.0 new (clear_named e.key text s) key cleared.2 were.1 (left_room (length p.cache.outdated) (count_by is_row p.cache.instances) (sum cleared.0) (length texts) (omega (arith, room)) first.few)))
   where
     named : Option Bytes
     named = named_at e.key text
@@ -82,7 +82,7 @@ each_more e target (text ∷ texts) p new s key short cleared were room =
     first : NotesMore 1 p cleared.0 s (clear_named e.key text s)
     first =
         more_as 1 1 p (cleared_of named p) cleared.0 s (law_cleared_of named s) (clear_named e.key text s) (omega arith)
-        (cleared.1.cleared ∙ ap (λ (b : Bool). astray_where (not b) (cleared_of (named_as b (site_of e.key) text) p)) were.0 ∙ ap (λ (o : Option Bytes). cleared_of o p) (names_same e.key target text key short.0)) (named_is e.key text s)
+        (cleared.1.cleared ∙ ap (λ (b : Bool). astray_where (not b) (cleared_of (named_as b (site_of e.key) text) p)) were.0 ∙ ap (λ (o : Option Bytes). cleared_of o p) (names_same e.key target text key)) (named_is e.key text s)
         (of_more named p s (room_first (length p.cache.outdated) (count_by is_row p.cache.instances) (length (text ∷ texts)) room))
 
 -- ---- what an unsafe method changed
@@ -100,7 +100,7 @@ module _ (number : ℕ → ℕ) (name : Bytes) (l : Leaving) (peers : List Peer)
       let both : (c : ClearsEach (site_of e.key) (places_in head) (cleared_key (key_of e) p) between) × WereRead (site_of e.key) (places_in head) (cleared_key (key_of e) p) between c =
       subst (λ (u : Bytes). (c : ClearsEach u (places_in head) (cleared_key (key_of e) p) between) × WereRead u (places_in head) (cleared_key (key_of e) p) between c) is (cleared, read) in
       more_then 1 (length (law_places head)) p (cleared_key (key_of e) p) between s (clear (key_of e) s) (clear_each e.key (law_places head) (clear (key_of e) s)) first
-      (each_more e keyed.target (places_in head) (cleared_key (key_of e) p) between (clear (key_of e) s) keyed.key keyed.short both.0 both.1 (omega (arith, first.few, room)))
+      (each_more e keyed.target (places_in head) (cleared_key (key_of e) p) between (clear (key_of e) s) keyed.key both.0 both.1 (omega (arith, first.few, room)))
 
   by_key : (o : Option Bytes) (path : ℕ) → o ≡ Some (key_of e) → path ≡ (place_of e.key).path → (rows : InvalidatesRows o path head p between) → WereReadOf o path head p between rows
       → NotesMore (1 + length (law_places head)) p between s (clear_each e.key (law_places head) (clear (key_of e) s))

@@ -127,11 +127,12 @@ module _ (shelf : KeptMap) (x y : Both) (s : State) (n : ℕ) (k : Conn) (e : Ex
     noted = noted_behind (parts p) (parts y.state) u (bad_head k u) (rows_show given.number p.cache u here) (rows_show number1 y.state.cache (bad_head k u) (subst (λ (v : State). ShowsTable number1 y.state.cache v) given.law_is table)) (tidy_shown given.number p.cache u here) law turn room
         named_then noted_then;
     named = facts.named named_then;
-    leaves = record {
-      forgotten = ap (λ (q : Turn). q.forgotten) given.rest ∙ given.shows.forgotten ∙ sym facts.forgotten_is;
-      evicting = ap (λ (q : Turn). q.is_evicting) given.rest ∙ alike.evicting ∙ tied.leaves.evicting ∙ sym (facts.evicting_is ∙ entered.evicting);
-    };
+    leaves = record { forgotten = ap (λ (q : Turn). q.forgotten) given.rest ∙ given.shows.forgotten ∙ sym facts.forgotten_is };
   })
+
+-- and eviction does not begin
+pub refused_evicting : (shelf : KeptMap) (x y : Both) (s : State) (n : ℕ) (k : Conn) (e : Exchange) (head : Response) → RefusedHead shelf x y s n k e head → y.state.is_evicting ≡ x.state.is_evicting
+refused_evicting shelf x y s n k e head given = ap (λ (q : Turn). q.is_evicting) given.rest ∙ (beside_alike shelf (key_in_flow e.number x.state.flow) x.state given.beside given.row).evicting
 
 -- what stands beside the row of its key, where it is refused
 pub refused_there : RulesAreTheLaws → OwnAnswersAreTheLaws → PassedAnswersAreTheLaws → PartAnswersAreTheLaws → (number : ℕ → ℕ) (shelf : KeptMap) (x y : Both) (s : State) (n : ℕ) (k : Conn) (e : Exchange) (peer : Peer) (head : Response) (rule : BodyRule) (left : Reading) → ShowsBoth number shelf x s → HeadIsDue x s n k e peer → HeadIsRead e head rule left

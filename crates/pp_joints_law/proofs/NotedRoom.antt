@@ -49,26 +49,25 @@ use Rattle.pp_joints_law.specs.HeadsNote.{FillingHeadsForget, LeavesAsTheLaw, Ow
 
 pub record Left (s t : State) : Type 0 where
   pub forgotten : t.forgotten ≡ s.forgotten
-  pub evicting : t.is_evicting ≡ s.is_evicting
 
 pub left_self : (s : State) → Left s s
-left_self s = record { forgotten = refl; evicting = refl }
+left_self s = record { forgotten = refl }
 
 pub left_then : (a b c : State) → Left a b → Left b c → Left a c
-left_then a b c one two = record { forgotten = two.forgotten ∙ one.forgotten; evicting = two.evicting ∙ one.evicting }
+left_then a b c one two = record { forgotten = two.forgotten ∙ one.forgotten }
 
 told_left : (e : Exchange) (b : LawBrought) (s : State) → Left s (tell e b s)
 unfolding tell
-told_left e b s = record { forgotten = refl; evicting = refl }
+told_left e b s = record { forgotten = refl }
 
 body_left : (e : Exchange) (b : LawBody) (s : State) → Left s (use_body e b s)
 unfolding use_body on_exchange
-body_left e b s = record { forgotten = refl; evicting = refl }
+body_left e b s = record { forgotten = refl }
 
 joined_left : (e : Exchange) (o : Option Known) (b : Known → LawBrought) (d : Known → LawBody) (s : State) → Left s (elim o as (λ t. State) [ None ↦ s | Some y ↦ tell e (b y) (use_body e (d y) s) ])
 unfolding tell use_body on_exchange
 joined_left e None b d s = left_self s
-joined_left e (Some y) b d s = record { forgotten = refl; evicting = refl }
+joined_left e (Some y) b d s = record { forgotten = refl }
 
 settled_left : (e : Exchange) (head : Response) (v : Version) (s : State) → Left s (settle_on e head v s)
 unfolding settle_on
@@ -80,7 +79,7 @@ renewed_left e head s = by (row s (key_of e))
   where
     by : (o : Option Known) → Left s (elim o as (λ t. State) [ None ↦ s | Some y ↦ renew y head (law_times e head s) s ])
     by None = left_self s
-    by (Some y) = record { forgotten = refl; evicting = refl }
+    by (Some y) = record { forgotten = refl }
 
 unchanged_left : (e : Exchange) (s : State) → Left s (settle_unchanged e s)
 unfolding settle_unchanged
@@ -88,18 +87,18 @@ unchanged_left e s = joined_left e (row s (key_of e)) _ _ s
 
 pub cleared_left : (key : Bytes) (s : State) → Left s (clear key s)
 unfolding clear swept
-cleared_left key s = record { forgotten = refl; evicting = refl }
+cleared_left key s = record { forgotten = refl }
 
 useless_left : (e : Exchange) (s : State) → Left s (useless e s)
-useless_left e s = let facts = facts_of (useless_clears e s) in record { forgotten = facts.forgotten_is; evicting = facts.evicting_is }
+useless_left e s = let facts = facts_of (useless_clears e s) in record { forgotten = facts.forgotten_is }
 
 unshared_left : (e : Exchange) (s : State) → Left s (law_not_shared e s)
 unfolding law_not_shared drop_answer tell use_body on_exchange on_client_of
-unshared_left e s = let one : Left s (clear (key_of e) s) = cleared_left (key_of e) s in record { forgotten = one.forgotten; evicting = one.evicting }
+unshared_left e s = let one : Left s (clear (key_of e) s) = cleared_left (key_of e) s in record { forgotten = one.forgotten }
 
 pub relayed_left : (e : Exchange) (head : Response) (rule : BodyRule) (s : State) → Left s (relay_head e head rule s)
 unfolding relay_head tell use_body on_exchange
-relayed_left e head rule s = record { forgotten = refl; evicting = refl }
+relayed_left e head rule s = record { forgotten = refl }
 
 cleared_by_left : (head : Response) (e : Exchange) (s : State) → Left s (law_cleared_by head e s)
 unfolding law_cleared_by
@@ -133,7 +132,7 @@ other_part_left e head rule s = by (law_private head) (law_clears head)
     by false false = useless_left e s
 
 elsewhere_left : (e : Exchange) (s : State) → Left s (count_elsewhere e s)
-elsewhere_left e s = let facts = facts_of (elsewhere_clears e s) in record { forgotten = facts.forgotten_is; evicting = facts.evicting_is }
+elsewhere_left e s = let facts = facts_of (elsewhere_clears e s) in record { forgotten = facts.forgotten_is }
 
 modified_left : (e : Exchange) (head : Response) (s : State) → Left s (law_not_modified e head s)
 unfolding law_not_modified unchanged
@@ -159,7 +158,7 @@ known_left e head v s = by (law_may_refresh e head s)
 
 made_left : (key : Bytes) (v : Version) (fields : List Field) (times : Times) (s : State) → Left (law_with_room (clear key s)) (make_row key v fields times s)
 unfolding make_row add_row
-made_left key v fields times s = record { forgotten = refl; evicting = refl }
+made_left key v fields times s = record { forgotten = refl }
 
 abbrev room_by : State → Bool → Option Known → State
 room_by s b o = elim b as (λ t. State) [ true ↦ s | false ↦ elim o as (λ t. State) [ None ↦ s | Some x ↦ forget_row x s ] ]
@@ -168,9 +167,9 @@ room_is : (s : State) → law_with_room s ≡ room_by s (nat_lt (rows s) 1024) (
 unfolding law_with_room
 room_is s = refl
 
-row_left : (x : Known) (s : State) → ((forget_row x s).forgotten ≡ s.forgotten ++ x.key ∷ []) × ((forget_row x s).is_evicting ≡ s.is_evicting)
+row_left : (x : Known) (s : State) → (forget_row x s).forgotten ≡ s.forgotten ++ x.key ∷ []
 unfolding forget_row forget
-row_left x s = (refl, refl)
+row_left x s = refl
 
 -- ---- of both
 
@@ -189,7 +188,7 @@ module _ (number : ℕ → ℕ) (name : Bytes) (l : Leaving) (peers : List Peer)
 
   -- nothing leaves
   stays : (u : State) → Left s u → LeavesAsTheLaw t u
-  stays u left = record { forgotten = leaves.forgotten ∙ sym left.forgotten; evicting = leaves.evicting ∙ sym left.evicting }
+  stays u left = record { forgotten = leaves.forgotten ∙ sym left.forgotten }
 
   abbrev anew : Version → State
   anew v = settle_on e head v (make_row key v (kept_of head.fields (law_times e head s)) (law_times e head s) s)
@@ -200,7 +199,7 @@ module _ (number : ℕ → ℕ) (name : Bytes) (l : Leaving) (peers : List Peer)
       left_then (law_with_room (clear key s)) made (anew v) (made_left key v (kept_of head.fields (law_times e head s)) (law_times e head s) s) (settled_left e head v made)
 
   leaves_as : (p : Turn) (u v : State) → LeavesAsTheLaw p u → Left u v → LeavesAsTheLaw p v
-  leaves_as p u v one left = record { forgotten = one.forgotten ∙ sym left.forgotten; evicting = one.evicting ∙ sym left.evicting }
+  leaves_as p u v one left = record { forgotten = one.forgotten ∙ sym left.forgotten }
 
   -- ---- in the place of a row that stands there is room
 
@@ -252,8 +251,7 @@ module _ (number : ℕ → ℕ) (name : Bytes) (l : Leaving) (peers : List Peer)
       leaves_one : (way : HasWay s) (o : Option Instance) → AreBoth (ShowsInstance number old.cache s) o (Some way.row) → LeavesAsTheLaw (forgotten_row o t) (forget_row way.row cleared)
       leaves_one way None both = absurd both
       leaves_one way (Some i) both = record {
-        forgotten = noted i way both ∙ ap (λ (keys : List Bytes). keys ++ way.row.key ∷ []) (sym (cleared_left key s).forgotten) ∙ sym (row_left way.row cleared).0;
-        evicting = leaves.evicting ∙ sym (cleared_left key s).evicting ∙ sym (row_left way.row cleared).1;
+        forgotten = noted i way both ∙ ap (λ (keys : List Bytes). keys ++ way.row.key ∷ []) (sym (cleared_left key s).forgotten) ∙ sym (row_left way.row cleared);
       }
 
       full : (way : HasWay s) → nat_lt (rows s) 1024 ≡ false → LeavesAsTheLaw (with_room t) (room_by cleared false (law_idle s))

@@ -1,5 +1,5 @@
 -- A head that was read names few other places; and who changes something at its origin goes alone.
-use Rattle.std.proofs.Common.{◌≡◌, ◌≤◌, refl, sym, subst, ℕ, Bool, true, false, not, ◌&&◌, ◌||◌, cond, filter, length, map, codes, List, [], ◌∷◌, length-append, arith}
+use Rattle.std.proofs.Common.{◌≡◌, ◌≤◌, ◌⊎◌, inl, inr, refl, sym, subst, ap, ℕ, Bool, true, false, not, ◌&&◌, ◌||◌, cond, filter, length, map, codes, List, [], ◌∷◌, length-append, arith}
 use Rattle.std.proofs.lemmas.Bool.Decides.{nat_tests}
 use Rattle.std.specs.Prelude.{bytes_eq, nat_le, nat_lt}
 use Rattle.pp_framing.specs.Framing.{request_rule_of}
@@ -8,9 +8,12 @@ use Rattle.pp_head.specs.Read.{Read, Whole, TooLong, Bad, More, read_by}
 use Rattle.pp_head.specs.Response.{Response, find_response, is_within, response_at, response_of}
 use Rattle.pp_head.specs.Step.{Step, Done, Short, Wrong}
 use Rattle.pp_law.specs.Lists.{Bytes}
-use Rattle.pp_law.specs.Requests.{body_len_by}
+use Rattle.pp_law.specs.Requests.{body_len_by, goes_alone, is_safe}
+use Rattle.pp_law.specs.State.{Exchange}
+use Rattle.pp_law.specs.ThroughHeads.{invalidates}
 use Rattle.pp_pipe.specs.Authentication.{binds_connection}
 use Rattle.pp_text.specs.Fields.{Field, is_named, values_of}
+use Rattle.pp_joints_law.specs.HeadsNote.{others_named, others_told}
 use Rattle.pp_joints_law.specs.ReadsNoteFew.{PlacesAreFew, ThereIsRoomForAll, UnsafeOnesGoAlone}
 
 mapped_length : {A B : Type 0} (f : A → B) (xs : List A) → length (map f xs) ≤ length xs
@@ -84,6 +87,18 @@ pub unsafe_alone : UnsafeOnesGoAlone
 unsafe_alone head is =
     let plain : Bool = bytes_eq head.method (codes "GET") || bytes_eq head.method (codes "HEAD") in
     alone_so plain (nat_lt 0 (body_len_by (request_rule_of head.fields))) (binds_connection head.fields) (first_false plain (bytes_eq head.method (codes "OPTIONS")) (first_false (plain || bytes_eq head.method (codes "OPTIONS")) (bytes_eq head.method (codes "TRACE")) is))
+
+-- so a head names no others where its request is safe, and few where it is not
+pub others_few : (e : Exchange) (head : Response) (text : Bytes) → response_at text ≡ Whole head → (others_told e head ≡ 0) ⊎ ((others_told e head ≤ 200) × (goes_alone e.head ≡ true))
+others_few e head text read = by (is_safe e.head) refl
+  where
+    few : (b : Bool) → others_named b head ≤ 200
+    few true = places_few text head read
+    few false = omega arith
+
+    by : (b : Bool) → is_safe e.head ≡ b → (others_told e head ≡ 0) ⊎ ((others_told e head ≤ 200) × (goes_alone e.head ≡ true))
+    by true is = inl (ap (λ (c : Bool). others_named (not c && nat_le 200 head.status && nat_lt head.status 400) head) is)
+    by false is = inr (few (invalidates e head), unsafe_alone e.head is)
 
 pub room_for_all : ThereIsRoomForAll
 room_for_all names rows heads places one two three four = omega (arith, one, two, three, four)

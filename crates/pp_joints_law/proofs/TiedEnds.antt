@@ -23,10 +23,7 @@ ties_by : (made : ℕ → Sides → Sides) (law : Conn → Exchange → Answer �
 ties_by made law turns laws number other n k e a x y s shows behind makes room tied = record {
   noted = noted_behind (parts x.state) (parts y.state) s (law k e a s) (rows_show number x.state.cache s shows) (rows_show other y.state.cache (law k e a s) behind) (tidy_shown number x.state.cache s shows) (laws k e a s) turn few tied.named tied.noted;
   named = facts.named tied.named;
-  leaves = record {
-    forgotten = ap (λ (p : Turn). p.forgotten) makes.rest ∙ tied.leaves.forgotten ∙ sym facts.forgotten_is;
-    evicting = ap (λ (p : Turn). p.is_evicting) makes.rest ∙ tied.leaves.evicting ∙ sym facts.evicting_is;
-  };
+  leaves = record { forgotten = ap (λ (p : Turn). p.forgotten) makes.rest ∙ tied.leaves.forgotten ∙ sym facts.forgotten_is };
 }
   where
     facts : Cleared s (law k e a s).entries (law k e a s).displaced (law k e a s).instances (law k e a s).forgotten (law k e a s).is_evicting

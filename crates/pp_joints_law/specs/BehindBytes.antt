@@ -17,7 +17,7 @@ use Rattle.pp_world.specs.declared.event.Event.TheVariants.{Readable}
 use Rattle.pp_world.specs.declared.happening.Happening.TheVariants.{CanRead, Got}
 
 -- what ties the program to the law where rows come and go: the entry of each row that was cleared, or made anew, is noted, as none else is; and
--- what has to leave memory is the same. ReadsNoteAll has it where it is so as the read begins
+-- what has to leave memory is the same. ReadsCome has it
 pub record ComesSo (y : Moving) (handled : State) : Type 0 where
   pub noted : AreNoted y.desk.state.cache.outdated handled.displaced handled.entries
   pub leaves : IsToLeave y handled

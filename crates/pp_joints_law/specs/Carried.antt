@@ -32,7 +32,7 @@ pub record StandsOnDisk (shelf : KeptMap) (p : Turn) (s : State) : Type 0 where
   pub names : HasOpenNames s
   pub short : All IsShort shelf.rows
   pub lost : p.has_lost_draft ≡ s.has_lost_draft
-  -- no source yet: a law of states, as `clear` alone displaces, and what is taken away is not displaced any more
+  -- from step to step: `clear` alone displaces, and what is taken away is not displaced any more
   pub displaced : DisplacedOnesAreThere s
   -- from the opening on (AsKept of `pp_shelf_law`)
   pub kept : EachIsAsKept shelf

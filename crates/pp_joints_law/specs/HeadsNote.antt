@@ -2,7 +2,7 @@
 -- row no more, or gives its name to another key, is noted by its name behind it, and no other is (RFC 2616, sections 9.4, 10.3.5, 13.5, 13.10
 -- and 14.9; ours): also where memory is refused for a row.
 --
--- What has to leave memory for it is the same in both.
+-- The row that has to leave memory for it is the same in both.
 --
 -- Where the premises come from: those of `Owns`, `Throughs`, `Fills` and `Outdates` of `pp_answers_law`, and of `Rows` and `Heads` of `pp_reads_law`.
 -- Each entry has the name of its key (ShowsShelf of `pp_shelf_law`). At most 2,048 names may be noted: RowsMayBeNoted of `pp_given_law` has how
@@ -107,10 +107,9 @@ RowsNoteFew = (shelf : KeptMap) (key : Option Bytes) (old new : Turn) → HasRow
 
 -- ---- a row that leaves memory for the one that a head makes
 
--- what has to leave memory is the same
+-- the same rows have to leave memory
 pub record LeavesAsTheLaw (t : Turn) (s : State) : Type 0 where
   pub forgotten : t.forgotten ≡ s.forgotten
-  pub evicting : t.is_evicting ≡ s.is_evicting
 
 -- at most one row leaves, where another comes in that has no room
 abbrev pub OfForgetting : (Exchange → Response → BodyRule → State → State) → Type 0
@@ -127,7 +126,7 @@ FillingHeadsForget = OfForgetting filling_head
 
 -- ---- both, of a head that comes on a connection, beside the row that is kept of its key
 
--- the same entries stand no more, each has the name of its key, and the same has to leave memory
+-- the same entries stand no more, each has the name of its key, and the same rows have to leave memory
 pub record IsTied (t : Turn) (s : State) : Type 0 where
   pub noted : AreNoted t.cache.outdated s.displaced s.entries
   pub named : AreNamed s.entries

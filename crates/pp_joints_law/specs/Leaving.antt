@@ -15,7 +15,7 @@ use Rattle.pp_world.specs.Log.{Log}
 -- ---- memory may be left
 
 -- as `MayLeave` of `pp_evicting_law` has both: none is forgotten, and no mark was reached, where an event is awaited; and an event leaves it so
--- (Behind). The read of an origin has no source yet
+-- (Behind, and ReadsCome where bytes of an origin come)
 pub record IsToLeave (x : Moving) (handled : State) : Type 0 where
   pub forgotten : x.desk.state.forgotten ≡ handled.forgotten
   pub evicting : (x.desk.state.is_evicting ≡ handled.is_evicting) ⊎ (next_victim (pins x.desk.state) x.desk.state.floor x.desk.state.cache.chunks ≡ None)

@@ -17,6 +17,7 @@ pub mod Loading
 pub mod MomentsNote
 pub mod Opened
 pub mod ReadsBegin
+pub mod ReadsCome
 pub mod ReadsNoteAll
 pub mod ReadsNoteFew
 pub mod Serving

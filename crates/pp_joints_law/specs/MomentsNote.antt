@@ -1,12 +1,12 @@
 -- From one moment of a read of an origin to the next: each entry that stands no more is noted by its name behind it, what has to leave memory is the
--- same in both, and what is kept on the disk is the law's (RFC 2616, sections 4.4, 6, 8.1 and 10.1; ours).
+-- same in both, rows and chunks, and what is kept on the disk is the law's (RFC 2616, sections 4.4, 6, 8.1 and 10.1; ours).
 --
 -- Where the premises come from: a moment is one of `Brings` of `pp_reads_law`, and so is what a head rests on (HeadRestsOn) and where the data of a
--- body may go. Where the read begins it stands so: the trigger is one that is set, nothing is noted but what stands no more, and the shelf shows the
--- law's entries, of which none has a closed name (StandsBefore of Behind, from wait to wait); that eviction has begun where it has to has no source
--- yet, as in DataTies. How many names are noted then is of RowsMayBeNoted of `pp_given_law`. ReadsNoteAll joins it over all moments of a read.
+-- body may go. Where the read begins it stands so (ReadsBegin): the trigger is one that is set, nothing is noted but what stands no more, the shelf
+-- shows the law's entries, of which none has a closed name (StandsBefore of Behind, from wait to wait), and eviction stands alike in both. How many
+-- names are noted then is of RowsMayBeNoted of `pp_given_law`. ReadsNoteAll joins it over all moments of a read.
 use Rattle.std.specs.Prelude.{◌≡◌, ◌<◌, ◌+◌, ℕ, false, count_by, length}
-use Rattle.pp_joints_law.specs.DataTies.{IsMarked}
+use Rattle.pp_joints_law.specs.DataTies.{EvictAlike}
 use Rattle.pp_joints_law.specs.HeadsNote.{IsTied, others_told}
 use Rattle.pp_keeps_law.specs.Stands.{HasOpenNames}
 use Rattle.pp_law.specs.Chunks.{trigger}
@@ -32,7 +32,7 @@ pub record IsOnShelf (shelf : KeptMap) (s : State) : Type 0 where
 
 pub record NotesAt (shelf : KeptMap) (x : Both) (s : State) : Type 0 where
   pub tied : IsTied x.state s
-  pub marked : IsMarked s
+  pub evict : EvictAlike x.state s
   pub set : x.state.trigger ≡ trigger s
   pub disk : IsOnShelf shelf s
 
@@ -47,7 +47,7 @@ HasRoomFor more x = length x.state.cache.outdated + count_by is_row x.state.cach
 -- ---- behind a head: the row of its key may come in beside it, the places that it names may be noted, and where it has no body its response may be whole
 
 abbrev pub HeadsNoteOn : Type 0
-HeadsNoteOn = (name : Bytes) (shelf : KeptMap) (n : ℕ) (x : Both) (s : State) (bytes : Bytes) (next : Both) (t : State) (rest : Bytes) (number : ℕ → ℕ) → (it : IsBehindHead shelf n x s bytes next t rest)
+HeadsNoteOn = (name : Bytes) (shelf : KeptMap) (n : ℕ) (x : Both) (s : State) (bytes : Bytes) (next : Both) (t : State) (rest : Bytes) (number : ℕ → ℕ) → (it : IsBehindHead name shelf n x s bytes next t rest)
     → HeadRestsOn shelf n it.head s it.exchange bytes it.behind it.there.begin it.there.then it.there.before it.there.peer it.it → next.state.is_astray ≡ false → ShowsSides number name (sides_of next) t → HasRoomFor (3 + others_told it.exchange it.it.head) x → NotesAt shelf x s → NotesAt shelf next t
 
 -- ---- behind a piece of a body

@@ -3,8 +3,8 @@
 --
 -- Where the premises come from, of Lives of `pp_run`: `HasServed` and `HasRead` have what words and text say, `OpensFolder` what the log gets
 -- as the folder is opened, with each failure of the outside counted, and the shelf, and `HasLived` what the proxy has then. So it is afforded
--- (`openings_are_counted` of `pp_turn_law`). A folder has no more names than are looked at, as the law permits no other at its Woke (`served_lives_are_lawful` there). One has no source
--- yet: what a crash leaves of the log it leaves of the law's disk, in which no name is noted that could not be read (`FilesAreTheLogs` of `pp_shelf_law` has it of the others).
+-- (`openings_are_counted` of `pp_turn_law`). A folder has no more names than are looked at, as the law permits no other at its Woke (`served_lives_are_lawful` there). What a crash
+-- leaves of the log it leaves of the law's disk, also of names that could not be read (`crashes_leave_the_disk` there).
 use Rattle.std.specs.Global.{Global}
 use Rattle.std.specs.List.{All, list_all}
 use Rattle.std.specs.Prelude.{◌≡◌, ◌≤◌, ℕ, true, false, map, take, is_some, List, [], ◌∷◌, ◌++◌, Option, Some, None, Ok, Err, String, string_bytes}

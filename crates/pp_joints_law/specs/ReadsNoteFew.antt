@@ -4,7 +4,7 @@
 -- A response names no more places than its head has fields of either name, and these are noted where the request was unsafe alone. Such a request
 -- goes alone, so that no other head comes in that read (`by_itself` of IsSoundTurn in `pp_laws_turn`). All others note their own row, of which a
 -- line has 8 at most (HasShortLines of `pp_laws_bounds`). Where a read begins at most 768 names are noted (`most_names` of `pp_given_law`), and
--- there are 1,024 rows at most. That each head of a read takes one of the line as it stood is of ReadsNoteAll, but for one that names other places.
+-- there are 1,024 rows at most. That each head of a read takes one of the line as it stood is of ReadsNoteAll.
 use Rattle.std.specs.Prelude.{◌≡◌, ◌≤◌, ◌<◌, ◌+◌, ◌*◌, ℕ, true, false, length}
 use Rattle.pp_head.specs.Read.{Whole}
 use Rattle.pp_head.specs.Request.{Request}

@@ -1,5 +1,5 @@
 // What heads and data of responses leave to be noted.
-ghost use Rattle.pp_joints_law.specs.DataTies.{DataTie, MarksStay};
+ghost use Rattle.pp_joints_law.specs.DataTies.{DataTie, NoMoreAreUsed};
 ghost use Rattle.pp_joints_law.specs.EndsTie.{BadBodiesTie, BadHeadsTie, WholesTie};
 ghost use Rattle.pp_joints_law.specs.HeadsNote.{
   FillingHeadsForget,
@@ -69,7 +69,7 @@ pub fn ends_tie_as_they_come()
     ensures heads { BadHeadsTie }
 {}
 
-/// All else that a read brings leaves it that eviction has begun where it has to.
-pub fn marks_stay_in_reads()
-    ensures stay { MarksStay }
+/// All else that a read brings uses no more chunks.
+pub fn no_more_are_used_in_reads()
+    ensures used { NoMoreAreUsed }
 {}

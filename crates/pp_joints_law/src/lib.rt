@@ -24,10 +24,9 @@
 //! `specs/HeadsNote.antt`: of each head that comes on a connection, beside the row that is kept of its key, what is noted and what has to
 //! leave memory are the same in both behind it; `specs/DataTies.antt` has it behind data, and `specs/EndsTie.antt` where a response is whole,
 //! or is none. `specs/MomentsNote.antt` joins them from one moment of a read to the next, where what is kept on the disk is the law's;
-//! `specs/ReadsNoteAll.antt` has it of all moments of a read, and behind it (ComesSo of `specs/BehindBytes.antt`); `specs/ReadsBegin.antt` where
-//! the read begins; `specs/ReadsNoteFew.antt` has how many names all heads of a read may note, also where one names other places.
-//!
-//! Not said: that eviction has begun where it has to as a read begins; and what stands behind the head of a response that names other places.
+//! `specs/ReadsNoteAll.antt` has it of all moments of a read, also of a head that names other places; `specs/ReadsBegin.antt` where the read begins;
+//! and `specs/ReadsCome.antt` from the wait on, at each moment and behind all of it (ComesSo of `specs/BehindBytes.antt`);
+//! `specs/ReadsNoteFew.antt` has how many names all heads of a read may note.
 //!
 //! To the layer above: each is the clause of a function that does nothing. It is one part of the proof that the program obeys the law.
 //!
@@ -62,7 +61,10 @@ pub use heads::{
 pub use keeping::keepings_come_behind_what_leaves;
 pub use leaving::memory_may_be_left_behind_events;
 pub use loading::what_is_carried_may_be_read_back;
-pub use moments::{moments_note_what_they_clear, reads_begin_noted, reads_note_what_they_clear};
+pub use moments::{
+    moments_note_what_they_clear, reads_begin_noted, reads_come_with_what_they_clear,
+    reads_note_what_they_clear,
+};
 pub use noting::what_left_memory_is_noted;
 pub use opened::{
     first_turns_begin, lives_begin_as_by_the_law, lives_may_break_off, lives_wake_behind_crashes,

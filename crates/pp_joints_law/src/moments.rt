@@ -1,7 +1,8 @@
 // From moment to moment of a read.
 ghost use Rattle.pp_joints_law.specs.MomentsNote.{HeadsNoteOn, NotedOnesAreKept, PiecesNoteOn};
-ghost use Rattle.pp_joints_law.specs.ReadsBegin.{FewOnesAreMarked, ReadsBeginNoted};
-ghost use Rattle.pp_joints_law.specs.ReadsNoteAll.{ReadsComeSo, ReadsNoteAll, RestingOnesAreMoments};
+ghost use Rattle.pp_joints_law.specs.ReadsBegin.{ReadsBeginNoted, WaitsLeaveEnough};
+ghost use Rattle.pp_joints_law.specs.ReadsCome.{ReadsComeBehind, ReadsNoteAmid};
+ghost use Rattle.pp_joints_law.specs.ReadsNoteAll.{ReadsNoteAll, ReadsNoteBehind};
 
 use pp_answers_law::{final_heads_are_the_laws, part_heads_are_the_laws};
 
@@ -15,18 +16,26 @@ pub fn moments_note_what_they_clear()
     part_heads_are_the_laws();
 }
 
-/// So it is at each moment of a read, as there is room for what all its heads note; and behind it, where memory may be left.
+/// So it is at each moment of a read, as there is room for what all its heads note, and behind the read.
 pub fn reads_note_what_they_clear()
-    ensures moments { RestingOnesAreMoments }
     ensures all { ReadsNoteAll }
-    ensures comes { ReadsComeSo }
+    ensures behind { ReadsNoteBehind }
 {
     final_heads_are_the_laws();
     part_heads_are_the_laws();
 }
 
-/// And it is so where a read begins behind a wait, where eviction has begun where it has to: as with fewer chunks than the trigger says.
+/// And it is so where a read begins behind a wait, from as few chunks as a turn leaves.
 pub fn reads_begin_noted()
     ensures begins { ReadsBeginNoted }
-    ensures marked { FewOnesAreMarked }
+    ensures enough { WaitsLeaveEnough }
 {}
+
+/// So it is from the wait on at each moment of a read, and behind all of it, where memory may be left.
+pub fn reads_come_with_what_they_clear()
+    ensures amid { ReadsNoteAmid }
+    ensures behind { ReadsComeBehind }
+{
+    final_heads_are_the_laws();
+    part_heads_are_the_laws();
+}

@@ -38,7 +38,7 @@ pub record StandsToKeep (number : ℕ → ℕ) (p : Turn) (shelf : KeptMap) (s :
   -- entries that stand no more are noted by their names
   pub noted : AreNoted p.cache.outdated s.displaced s.entries
   pub names : HasOpenNames s
-  -- `clear` displaces those alone that have one, and `note_gone` takes it out with it: no source yet
+  -- `clear` displaces those alone that have one, and `note_gone` takes it out with it (Carried of `pp_joints_law`)
   pub displaced : DisplacedOnesAreThere s
   -- row_at gives no other, of a folder (OpenedRowsAreShort of `pp_joints_law`)
   pub short : All IsShort shelf.rows

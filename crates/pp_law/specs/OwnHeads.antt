@@ -287,8 +287,12 @@ note_own e a at bytes s = elim (is_empty bytes) [
 unfoldable pub note_sent : Exchange → Answer → ℕ → Bytes → State → State
 note_sent e a at bytes s = elim e.aim [ Through ↦ s | Own ↦ note_own e a at bytes s | Filling v from to ↦ note_own e a at bytes s ]
 
+-- the instance that they join: no bytes join none
+abbrev pub joined_one : Bound → Bytes → State → Option Instance
+joined_one b bytes s = elim (is_empty bytes) [ true ↦ None | false ↦ instance s b.instance ]
+
 unfoldable pub join : Bound → Bytes → State → State
-join b bytes s = elim (instance s b.instance) [ None ↦ s | Some x ↦ note_use (record s { chunks = joined x.id (extent_of s x) b.next bytes s.chunks }) ]
+join b bytes s = elim (joined_one b bytes s) [ None ↦ s | Some x ↦ note_use (record s { chunks = joined x.id (extent_of s x) b.next bytes s.chunks }) ]
 
 abbrev pub moved_on : ℕ → Exchange → Exchange
 moved_on n e = elim (bound_of e) [ None ↦ e | Some b ↦ record e { body = Joining (record b { next = b.next + n }) } ]

@@ -1,5 +1,5 @@
 -- What a response that is passed tells of rows: what an unsafe method changed, and what HEAD and GET show (RFC 2616, sections 9.4 and 13.10).
-use Rattle.std.specs.Prelude.{Bool, true, false, ◌==◌, ◌&&◌, ◌||◌, not, nat_lt, nat_le, List, [], ◌∷◌, ◌++◌, bytes_eq, codes, Option, Some, None, Ok, Err, nat_eq}
+use Rattle.std.specs.Prelude.{Bool, true, false, ◌==◌, ◌&&◌, ◌||◌, not, nat_lt, nat_le, length, List, [], ◌∷◌, ◌++◌, bytes_eq, codes, Option, Some, None, Ok, Err, nat_eq}
 use Rattle.std.specs.List.{starts_with}
 use Rattle.pp_framing.specs.declared.body.BodyRule.{BodyRule}
 use Rattle.pp_head.specs.Response.{Response}
@@ -19,9 +19,9 @@ use Rattle.pp_law.specs.Table.{clear}
 abbrev pub invalidates : Exchange → Response → Bool
 invalidates e head = not (is_safe e.head) && nat_le 200 head.status && nat_lt head.status 400
 
--- Location and Content-Location: a URL, or a path of the same host
+-- Location and Content-Location: a URL, or a path of the same host; no key has more than 8,192 bytes
 abbrev pub path_named : Key → Bytes → Option Key
-path_named key text = elim (starts_with nat_eq text (codes "/")) [ true ↦ Some (record key { path = text }) | false ↦ None ]
+path_named key text = elim (starts_with nat_eq text (codes "/") && nat_le (length (text_of (record key { path = text }))) 8192) [ true ↦ Some (record key { path = text }) | false ↦ None ]
 
 abbrev pub key_named : Key → Bytes → Option Key
 key_named key text = elim (key_at text) [ Ok named ↦ Some named | Err fault ↦ path_named key text ]

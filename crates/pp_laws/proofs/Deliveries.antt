@@ -8,7 +8,7 @@ use Rattle.pp_valid.specs.declared.version.Version.{Version}
 use Rattle.pp_law.specs.Chunks.{joined, note_use}
 use Rattle.pp_law.specs.Connections.{is_exchange, on_exchange}
 use Rattle.pp_law.specs.Lists.{Bytes}
-use Rattle.pp_law.specs.OwnHeads.{key_of, first_offset, sent_as, note_own, note_sent, join, moved_on, join_bound}
+use Rattle.pp_law.specs.OwnHeads.{key_of, first_offset, sent_as, note_own, note_sent, join, joined_one, moved_on, join_bound}
 use Rattle.pp_law.specs.Passing.{pour, poured}
 use Rattle.pp_law.specs.Responses.{deliver, payload_of}
 use Rattle.pp_law.specs.Stages.{on_passed, bound_of}
@@ -94,9 +94,14 @@ note_sent-sent e a at bytes v s noted version = noted_by e.aim s (note_own e a a
 
 -- ---- they join
 
+-- what they join is there
+pub joined_there : (none : Bool) (o : Option Instance) (x : Instance) → elim none as (λ t. Option Instance) [ true ↦ None | false ↦ o ] ≡ Some x → o ≡ Some x
+joined_there true o x is = absurd (let none : None ≡ Some x = is in cc none)
+joined_there false o x is = is
+
 join-only : {b : Since} (to : Bound) (bytes : Bytes) (s : State) → (b.counts_loads ≡ true → (x : Instance) → IsIn x s.instances → x.id ≡ to.instance → AllSent s.sent x.key x.version to.next bytes) → Sound b s → OnlySent b s (join to bytes s)
 unfolding join note_use
-join-only {b} to bytes s sent h = by (instance s to.instance) refl
+join-only {b} to bytes s sent h = by (joined_one to bytes s) refl
   where
     facts : FactsOf b s
     facts = facts_of h
@@ -105,11 +110,11 @@ join-only {b} to bytes s sent h = by (instance s to.instance) refl
     held x there counts y i =
         joined-held s.sent y.key y.version y.id x.id (extent_of s x) to.next bytes s.chunks (λ is. sent counts y i (sym is ∙ same_number x.id to.instance there.1)) (facts.held counts y i)
 
-    by : (found : Option Instance) → instance s to.instance ≡ found
+    by : (found : Option Instance) → joined_one to bytes s ≡ found
         → OnlySent b s (elim found as (λ c. State) [ None ↦ s | Some x ↦ note_use (record s { chunks = joined x.id (extent_of s x) to.next bytes s.chunks }) ])
     by None is = only_sent s h
     by (Some x) is =
-        let there = in_find (is_instance to.instance) x s.instances is in
+        let there = in_find (is_instance to.instance) x s.instances (joined_there (is_empty bytes) (instance s to.instance) x is) in
         record {
           is_sound = note_use-sound _ (sound (rechunked b s (joined x.id (extent_of s x) to.next bytes s.chunks) (joined-given s.next_instance x.id (extent_of s x) to.next bytes s.chunks (facts.rows.given x there.0) facts.rows.chunks_given) (held x there) facts));
           conns = refl;

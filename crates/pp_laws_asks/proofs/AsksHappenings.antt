@@ -27,7 +27,7 @@ use Rattle.pp_law.specs.Connections.{client, conn, each_exchange, end_exchange, 
 use Rattle.pp_law.specs.Leaving.{Leaving, ForAnother, ForMemory, BeforeDecision, leaving_as}
 use Rattle.pp_law.specs.Lists.{Bytes, change, is_this}
 use Rattle.pp_law.specs.Opening.{terms_behind, are_texts, begun, configured, is_at, is_opening, lose_in_opening, names_file, opened_to, settings_in, stuck, with_settings, woken}
-use Rattle.pp_law.specs.OwnHeads.{is_wrong_head, join, join_bound, moved_on, note_own, note_sent}
+use Rattle.pp_law.specs.OwnHeads.{is_wrong_head, join, joined_one, join_bound, moved_on, note_own, note_sent}
 use Rattle.pp_law.specs.Passing.{poured}
 use Rattle.pp_law.specs.Permits.{is_new_number, is_permitted, IsPermitted, permits, may_open}
 use Rattle.pp_law.specs.Phases.{phases, in_phase, is_awaiting, is_done, behind, next, come, come_to, come_to_decide, decides, deciding, due_victim, ending}
@@ -115,7 +115,7 @@ note_sent-asks e a at bytes s h = by_aim_of e.aim h (note_own-asks e a at bytes 
 
 join-asks : (b : Bound) (bytes : Bytes) (s : State) → Holds Asks s → Holds Asks (join b bytes s)
 unfolding join note_use
-join-asks b bytes s h = each_of (instance s b.instance) h (λ x. holds (facts_of h))
+join-asks b bytes s h = each_of (joined_one b bytes s) h (λ x. holds (facts_of h))
 
 moved_same : (m : ℕ) (e : Exchange) → SameAsk (moved_on m e) e
 moved_same m e = by (bound_of e)

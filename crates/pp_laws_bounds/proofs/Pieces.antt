@@ -127,7 +127,7 @@ note_sent-kept e a at bytes s h = by_aim_of e.aim h (note_own-kept e a at bytes 
 
 join-kept : {but : List ℕ} (b : Bound) (bytes : Bytes) (s : State) → Kept but s → Kept but (join b bytes s)
 unfolding join
-join-kept b bytes s h = each_of (instance s b.instance) h (λ x. note_use-kept _ (kept (facts_of h)))
+join-kept b bytes s h = each_of _ h (λ x. note_use-kept _ (kept (facts_of h)))
 
 moved_number : (n : ℕ) (e : Exchange) → (moved_on n e).number ≡ e.number
 moved_number n e = by (bound_of e)

@@ -182,7 +182,7 @@ note_sent-small e a at bytes s h = by_aim_of e.aim h (note_own-small e a at byte
 
 join-small : {m : As} (b : Bound) (bytes : Bytes) (s : State) → Small m s → Small m (join b bytes s)
 unfolding join
-join-small b bytes s h = each_of (instance s b.instance) h (λ x. note_use-small _ (small (facts_of h)))
+join-small b bytes s h = each_of _ h (λ x. note_use-small _ (small (facts_of h)))
 
 moved_counts : (n : ℕ) → NotBound (moved_on n)
 moved_counts n expects e is = by (bound_of e) refl is

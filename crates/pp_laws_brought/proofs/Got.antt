@@ -11,7 +11,7 @@ use Rattle.pp_pipe.specs.Front.{is_interim}
 use Rattle.pp_text.specs.Bytes.{is_empty}
 use Rattle.pp_law.specs.Connections.{conn, is_conn, is_exchange, front_of_line, on_conn, on_exchange, close_conn}
 use Rattle.pp_law.specs.Lists.{Bytes}
-use Rattle.pp_law.specs.OwnHeads.{first_offset, is_wrong_head, join, join_bound, moved_on, note_own, note_sent, sent_as}
+use Rattle.pp_law.specs.OwnHeads.{first_offset, is_wrong_head, join, joined_one, join_bound, moved_on, note_own, note_sent, sent_as}
 use Rattle.pp_law.specs.Passing.{poured}
 use Rattle.pp_law.specs.Responses.{Piece, answer_for, answer_with, answered_by, asks_head, bad_head, bad_response, begin_answer, body_piece, body_piece_of, deliver, end_if_empty, finish, got, head_came, head_piece, is_early, next_piece, payload_of, with_unread}
 use Rattle.pp_law.specs.Stages.{bound_of}
@@ -182,7 +182,7 @@ note_sent-keeps e a at bytes s h = by_aim_of e.aim h (note_own-keeps e a at byte
 
 join-keeps : {but : Apart} (b : Bound) (bytes : Bytes) (s : State) → Holds but s → Holds but (join b bytes s)
 unfolding join
-join-keeps b bytes s h = each_of (instance s b.instance) h (λ x. note_use-keeps _ (holds (facts_of h)))
+join-keeps b bytes s h = each_of (joined_one b bytes s) h (λ x. note_use-keeps _ (holds (facts_of h)))
 
 note_exchanges : (e : Exchange) (a : Answer) (at : ℕ) (bytes : Bytes) (s : State) → (note_sent e a at bytes s).exchanges ≡ s.exchanges
 unfolding note_sent note_own

@@ -6,7 +6,7 @@ use Rattle.pp_pass.specs.Pipe.{Pipe, with_data}
 use Rattle.pp_text.specs.Bytes.{is_empty}
 use Rattle.pp_law.specs.Connections.{close_conn, front_of_line, on_conn}
 use Rattle.pp_law.specs.Lists.{Bytes}
-use Rattle.pp_law.specs.OwnHeads.{join, join_bound, moved_on, note_own, note_sent}
+use Rattle.pp_law.specs.OwnHeads.{join, joined_one, join_bound, moved_on, note_own, note_sent}
 use Rattle.pp_law.specs.Passing.{pour, poured}
 use Rattle.pp_law.specs.Responses.{Piece, bad_response, body_piece, body_piece_of, deliver, finish, payload_of}
 use Rattle.pp_law.specs.Stages.{bound_in, bound_of, is_pending, on_passed}
@@ -33,7 +33,7 @@ note_sent-any e a at bytes s h = by_aim_of e.aim h (when (is_empty bytes) h (hol
 
 join-any : {P : View → Type 0} (b : Bound) (bytes : Bytes) (s : State) → Holds P s → Holds P (join b bytes s)
 unfolding join note_use
-join-any b bytes s h = each_of (instance s b.instance) h (λ x. holds (facts_of h))
+join-any b bytes s h = each_of (joined_one b bytes s) h (λ x. holds (facts_of h))
 
 moved_ask : (m : ℕ) (e : Exchange) → SameAsk false (moved_on m e) e
 moved_ask m e = by e.body refl

@@ -335,7 +335,7 @@ note_sent-kept e a at bytes s h = by_aim_of e.aim h (note_own-kept e a at bytes 
 
 join-kept : {o : State} (b : Bound) (bytes : Bytes) (s : State) → Kept o s → Kept o (join b bytes s)
 unfolding join
-join-kept b bytes s h = each_of (instance s b.instance) h (λ x. note_use-kept _ (kept (parts_of h)))
+join-kept b bytes s h = each_of _ h (λ x. note_use-kept _ (kept (parts_of h)))
 
 join_bound-kept : {o : State} (e : Exchange) (bytes : Bytes) (s : State) → Kept o s → Kept o (join_bound e bytes s)
 unfolding join_bound

@@ -32,7 +32,7 @@ use Rattle.pp_law.specs.Lawful.{Lawful}
 use Rattle.pp_law.specs.Leaving.{Leaving, ForAnother, ForMemory, BeforeDecision, leaving_as}
 use Rattle.pp_law.specs.Lists.{Bytes}
 use Rattle.pp_law.specs.Opening.{are_texts, begun, configured, is_at, is_opening, names_file, opened_to, settings_in, stuck, with_settings, woken}
-use Rattle.pp_law.specs.OwnHeads.{is_wrong_head, key_of, join, join_bound, moved_on, note_own, note_sent}
+use Rattle.pp_law.specs.OwnHeads.{is_wrong_head, key_of, join, joined_one, join_bound, moved_on, note_own, note_sent}
 use Rattle.pp_law.specs.Passing.{poured}
 use Rattle.pp_law.specs.Permits.{is_new_number, is_permitted, IsPermitted, may_open, permits, permits_dial}
 use Rattle.pp_law.specs.Phases.{phases, in_phase, is_awaiting, is_done, behind, next, come, come_to, come_to_decide, decides, deciding, due_victim, ending}
@@ -205,7 +205,7 @@ note_sent-apart e a at bytes s h = by_aim_of e.aim h (note_own-apart e a at byte
 
 join-apart : (b : Bound) (bytes : Bytes) (s : State) → Holds Apart s → Holds Apart (join b bytes s)
 unfolding join note_use
-join-apart b bytes s h = each_of (instance s b.instance) h (λ x. holds (facts_of h))
+join-apart b bytes s h = each_of (joined_one b bytes s) h (λ x. holds (facts_of h))
 
 moved_same : (m : ℕ) (e : Exchange) → SameAsk (moved_on m e) e
 moved_same m e = by (bound_of e)

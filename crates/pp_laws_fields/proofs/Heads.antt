@@ -252,7 +252,7 @@ note_sent-keeps e a at bytes s h = by_aim_of e.aim h (note_own-keeps e a at byte
 
 join-keeps : {R : Like} (b : Bound) (bytes : Bytes) (s : State) → Holds R s → Holds R (join b bytes s)
 unfolding join
-join-keeps b bytes s h = each_of (instance s b.instance) h (λ x. note_use-keeps _ (holds (facts_of h)))
+join-keeps b bytes s h = each_of _ h (λ x. note_use-keeps _ (holds (facts_of h)))
 
 pub join_bound-keeps : {R : Like} (e : Exchange) (bytes : Bytes) (s : State) → Holds R s → Holds R (join_bound e bytes s)
 unfolding join_bound

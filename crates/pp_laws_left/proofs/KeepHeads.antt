@@ -16,7 +16,7 @@ use Rattle.pp_text.specs.Bytes.{is_empty}
 use Rattle.pp_valid.specs.declared.version.Version.{Version}
 use Rattle.pp_law.specs.Connections.{conn, exchange, is_for, front_of_line, on_conn, attempts_of, without_shared_row, end_exchange, close_conn}
 use Rattle.pp_law.specs.Lists.{Bytes, is_some_with}
-use Rattle.pp_law.specs.OwnHeads.{key_of, is_asked_by, tell, use_body, drop_answer, useless, times_for, renewed, renew, settle_on, renew_row, may_refresh, settle_known, known_version, settle, may_join, names_version, settle_unchanged, unchanged, is_of_another, forbids_sharing, not_shared, not_modified, clears_row, cleared_by, is_private_part, is_widened, relay_head, other_head, other_part, own_head, is_bound, lacks_next, count_elsewhere, part_head, filling_head, version_in, is_wrong_head, note_own, note_sent, join, join_bound}
+use Rattle.pp_law.specs.OwnHeads.{key_of, is_asked_by, tell, use_body, drop_answer, useless, times_for, renewed, renew, settle_on, renew_row, may_refresh, settle_known, known_version, settle, may_join, names_version, settle_unchanged, unchanged, is_of_another, forbids_sharing, not_shared, not_modified, clears_row, cleared_by, is_private_part, is_widened, relay_head, other_head, other_part, own_head, is_bound, lacks_next, count_elsewhere, part_head, filling_head, version_in, is_wrong_head, note_own, note_sent, join, joined_one, join_bound}
 use Rattle.pp_law.specs.Passing.{pour}
 use Rattle.pp_law.specs.Responses.{skipping, skip_body, rested, close_this, may_go_on, finish, bad_response, bad_head, by_aim, asks_head, answer_with, end_if_empty, begin_answer, answer_for, head_came, Piece, is_early, with_unread, head_piece, deliver, payload_of, body_piece_of, body_piece, next_piece, got, is_whole_at_end, finish_first, ended, bring_row, is_readable}
 use Rattle.pp_law.specs.Stages.{is_begun, on_passed, bound_of}
@@ -258,7 +258,7 @@ note_sent-keeps e a at bytes s h = by_aim_of e.aim h (note_own-keeps e a at byte
 
 join-keeps : {o : State} (b : Bound) (bytes : Bytes) (s : State) → Keeps false o s → Keeps false o (join b bytes s)
 unfolding join
-join-keeps b bytes s h = each_of (instance s b.instance) h (λ x. note_use-keeps _ (keeps (facts_of h)))
+join-keeps b bytes s h = each_of (joined_one b bytes s) h (λ x. note_use-keeps _ (keeps (facts_of h)))
 
 pub join_bound-keeps : {o : State} (e : Exchange) (bytes : Bytes) (s : State) → Keeps false o s → Keeps false o (join_bound e bytes s)
 unfolding join_bound

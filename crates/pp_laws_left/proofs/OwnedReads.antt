@@ -9,7 +9,7 @@ use Rattle.pp_law.specs.Chunks.{note_use}
 use Rattle.pp_law.specs.Closing.{left_alone}
 use Rattle.pp_law.specs.Connections.{charge, close_conn, end_exchange, exchange, fail, front_of_line, give_up_row, is_conn, is_exchange, is_for, is_trying, is_unfilled, lose_attempt, on_client_of, on_conn, on_exchange, out_of_tries, without_row}
 use Rattle.pp_law.specs.Lists.{Bytes, is_this}
-use Rattle.pp_law.specs.OwnHeads.{join, join_bound, moved_on, note_own, note_sent}
+use Rattle.pp_law.specs.OwnHeads.{join, joined_one, join_bound, moved_on, note_own, note_sent}
 use Rattle.pp_law.specs.Passing.{pour, poured}
 use Rattle.pp_law.specs.Responses.{Piece, bad_head, bad_response, body_piece, body_piece_of, deliver, finish, payload_of}
 use Rattle.pp_law.specs.Stages.{bound_in, bound_of, filled_of, is_begun, is_headed, is_pending, on_passed, passed_of}
@@ -158,7 +158,7 @@ note_sent-any e a at bytes s h = by_aim_of e.aim h (when (is_empty bytes) h (hol
 
 pub join-any : {P : View → Type 0} (b : Bound) (bytes : Bytes) (s : State) → Holds P s → Holds P (join b bytes s)
 unfolding join note_use
-join-any b bytes s h = each_of (instance s b.instance) h (λ x. holds (facts_of h))
+join-any b bytes s h = each_of (joined_one b bytes s) h (λ x. holds (facts_of h))
 
 moved_kept : (ks : List Conn) (m : ℕ) (e : Exchange) → KeptAsk ks (moved_on m e) e × ((moved_on m e).key ≡ e.key)
 moved_kept ks m e = by e.body refl

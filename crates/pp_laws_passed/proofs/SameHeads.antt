@@ -57,4 +57,4 @@ note_sent-same e a at bytes s h = by_aim_of e.aim h (note_own-same e a at bytes 
 
 pub join-same : {o : State} (b : Bound) (bytes : Bytes) (s : State) → Same o s → Same o (join b bytes s)
 unfolding join
-join-same b bytes s h = each_of (instance s b.instance) h (λ x. note_use-same _ (alike (facts_of h)))
+join-same b bytes s h = each_of _ h (λ x. note_use-same _ (alike (facts_of h)))

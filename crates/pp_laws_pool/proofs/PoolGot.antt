@@ -20,7 +20,7 @@ use Rattle.pp_valid.specs.declared.version.Version.{Version}
 use Rattle.pp_law.specs.Chunks.{joined, note_use, trigger}
 use Rattle.pp_law.specs.Connections.{conn, exchange, is_conn, is_exchange, on_client_of, on_conn, on_exchange, front_of_line, close_conn, end_exchange, without_ask}
 use Rattle.pp_law.specs.Lists.{Bytes}
-use Rattle.pp_law.specs.OwnHeads.{is_wrong_head, join, join_bound, moved_on, note_own, note_sent}
+use Rattle.pp_law.specs.OwnHeads.{is_wrong_head, join, joined_one, join_bound, moved_on, note_own, note_sent}
 use Rattle.pp_law.specs.Passing.{pour, poured}
 use Rattle.pp_law.specs.Responses.{skip_body, rested, close_this, may_go_on, finish, bad_response, bad_head, asks_head, by_aim, answer_with, answered_by, end_if_empty, begin_answer, answer_for, head_came, Piece, is_early, with_unread, head_piece, deliver, payload_of, body_piece_of, body_piece, next_piece, got, bring_row}
 use Rattle.pp_law.specs.Stages.{bound_of}
@@ -244,7 +244,7 @@ with_data most bytes = most + (length bytes / 4096 + 2)
 
 join-pool : (a : As) (n asks most : ℕ) (b : Bound) (bytes : Bytes) (s : State) → Holds (Pool (reading a n asks most)) s → Holds (Pool (reading a n asks (with_data most bytes))) (join b bytes s)
 unfolding join
-join-pool a n asks most b bytes s h = each_of (instance s b.instance) (wider a n asks asks most (with_data most bytes) s (le_refl asks) (omega arith) h) (λ x. came_near (reading a n asks most) (with_data most bytes) (joined x.id (extent_of s x) b.next bytes s.chunks) s (few x) (joined_apart x.id (extent_of s x) b.next bytes s.chunks (facts_of h).apart) h)
+join-pool a n asks most b bytes s h = each_of _ (wider a n asks asks most (with_data most bytes) s (le_refl asks) (omega arith) h) (λ x. came_near (reading a n asks most) (with_data most bytes) (joined x.id (extent_of s x) b.next bytes s.chunks) s (few x) (joined_apart x.id (extent_of s x) b.next bytes s.chunks (facts_of h).apart) h)
   where
     few : (x : Instance) → length (joined x.id (extent_of s x) b.next bytes s.chunks) ≤ with_data most bytes
     few x = let j = joined_few x.id (extent_of s x) b.next bytes s.chunks in let le : length s.chunks ≤ most = (facts_of h).few in omega arith
@@ -308,7 +308,7 @@ note_sent-conns e x at bytes s = same_aim s e.aim _ _ _ refl (note_own-conns e x
 
 join-conns : (b : Bound) (bytes : Bytes) (s : State) → (join b bytes s).conns ≡ s.conns
 unfolding join note_use
-join-conns b bytes s = same_each s (instance s b.instance) _ _ refl (λ x. refl)
+join-conns b bytes s = same_each s (joined_one b bytes s) _ _ refl (λ x. refl)
 
 join_bound-conns : (e : Exchange) (bytes : Bytes) (s : State) → (join_bound e bytes s).conns ≡ s.conns
 unfolding join_bound on_exchange

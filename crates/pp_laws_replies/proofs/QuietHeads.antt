@@ -240,7 +240,7 @@ note_sent-quiet e a at bytes s h = by_aim_of e.aim h (note_own-quiet e a at byte
 
 join-quiet : {o : State} (b : Bound) (bytes : Bytes) (s : State) → Quietly o s → Quietly o (join b bytes s)
 unfolding join
-join-quiet b bytes s h = each_of (instance s b.instance) h (λ x. note_use-quiet _ (quietly (facts_of h)))
+join-quiet b bytes s h = each_of _ h (λ x. note_use-quiet _ (quietly (facts_of h)))
 
 pub join_bound-quiet : {o : State} (e : Exchange) (bytes : Bytes) (s : State) → Quietly o s → Quietly o (join_bound e bytes s)
 unfolding join_bound

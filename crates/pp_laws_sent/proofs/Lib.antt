@@ -3,6 +3,7 @@ mod Came
 mod Pieces
 mod Happenings
 mod Laws
+mod Coming
 mod Relayed
 mod Ours
 mod Arrived

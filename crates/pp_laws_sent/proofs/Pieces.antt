@@ -23,7 +23,7 @@ use Rattle.pp_valid.specs.declared.version.Version.{Version}
 use Rattle.pp_law.specs.Chunks.{note_use}
 use Rattle.pp_law.specs.Connections.{conn, is_conn, on_conn, on_exchange, front_of_line, close_conn, end_exchange, lose_place, lose_attempt}
 use Rattle.pp_law.specs.Lists.{Bytes, change}
-use Rattle.pp_law.specs.OwnHeads.{key_of, first_offset, version_in, is_wrong_head, sent_as, note_own, note_sent, join, join_bound, moved_on}
+use Rattle.pp_law.specs.OwnHeads.{key_of, first_offset, version_in, is_wrong_head, sent_as, note_own, note_sent, join, joined_one, join_bound, moved_on}
 use Rattle.pp_law.specs.Passing.{pour, poured}
 use Rattle.pp_law.specs.Responses.{skip_body, rested, may_go_on, finish, bad_response, bad_head, asks_head, by_aim, answer_with, answered_by, end_if_empty, begin_answer, answer_for, head_came, Piece, is_early, with_unread, head_piece_of, head_piece, deliver, payload_of, body_piece_of, body_piece, next_piece, got, bring_row}
 use Rattle.pp_law.specs.Stages.{bound_of}
@@ -187,7 +187,7 @@ version_in_same e d head so = ap (λ (r : Request). version_of head.fields head.
 
 join-keeps : {P : View → Type 0} (b : Bound) (bytes : Bytes) (s : State) → ((v : View) (is_evicting : Bool) (chunks : List Chunk) → P v → P (record v { is_evicting = is_evicting; chunks = chunks })) → Holds P s → Holds P (join b bytes s)
 unfolding join note_use
-join-keeps b bytes s free h = each_of (instance s b.instance) h (λ x. holds (free (view s) _ _ (facts_of h)))
+join-keeps b bytes s free h = each_of (joined_one b bytes s) h (λ x. holds (free (view s) _ _ (facts_of h)))
 
 moved_same : (m : ℕ) (e : Exchange) → SameAsk (moved_on m e) e
 moved_same m e = by (bound_of e)

@@ -1,4 +1,5 @@
 // What was sent, in the log.
+ghost use Rattle.pp_laws_sent.specs.Coming.{BodiesAreLess};
 ghost use Rattle.pp_laws_sent.specs.Relayed.{PassedStandsInTheLog};
 ghost use Rattle.pp_laws_sent.specs.Stands.{SentStandsInTheLog};
 ghost use Rattle.pp_laws_sent.specs.Whole.{PassedIsOneSoFar, PassedIsOneWhole, SeenIsJustBefore};
@@ -20,4 +21,9 @@ pub fn passed_is_one_whole_response()
     ensures so_far { PassedIsOneSoFar }
     ensures whole { PassedIsOneWhole }
     ensures seen { SeenIsJustBefore }
+{}
+
+/// Of the response that comes on a connection less came than on the connection, as its head came before.
+pub fn bodies_are_less_than_came()
+    ensures less { BodiesAreLess }
 {}

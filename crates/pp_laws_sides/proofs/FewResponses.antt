@@ -16,7 +16,7 @@ use Rattle.pp_text.specs.Bytes.{is_empty}
 use Rattle.pp_valid.specs.declared.version.Version.{Version}
 use Rattle.pp_law.specs.Connections.{attempts_of, without_shared_row, conn, exchange, is_for, front_of_line, on_conn, end_exchange}
 use Rattle.pp_law.specs.Lists.{Bytes, is_some_with}
-use Rattle.pp_law.specs.OwnHeads.{is_asked_by, key_of, tell, use_body, drop_answer, useless, times_for, renewed, renew, settle_on, renew_row, known_version, may_refresh, settle_known, names_version, may_join, settle, settle_unchanged, unchanged, forbids_sharing, is_of_another, not_shared, not_modified, clears_row, cleared_by, is_private_part, is_widened, relay_head, other_head, other_part, own_head, is_bound, lacks_next, count_elsewhere, part_head, filling_head, is_wrong_head, version_in, note_own, note_sent, join, join_bound}
+use Rattle.pp_law.specs.OwnHeads.{is_asked_by, key_of, tell, use_body, drop_answer, useless, times_for, renewed, renew, settle_on, renew_row, known_version, may_refresh, settle_known, names_version, may_join, settle, settle_unchanged, unchanged, forbids_sharing, is_of_another, not_shared, not_modified, clears_row, cleared_by, is_private_part, is_widened, relay_head, other_head, other_part, own_head, is_bound, lacks_next, count_elsewhere, part_head, filling_head, is_wrong_head, version_in, note_own, note_sent, join, joined_one, join_bound}
 use Rattle.pp_law.specs.Passing.{pour, poured}
 use Rattle.pp_law.specs.Stages.{on_passed}
 use Rattle.pp_law.specs.Responses.{skipping, skip_body, close_this, rested, may_go_on, finish, bad_response, bad_head, by_aim, asks_head, answer_with, answered_by, end_if_empty, begin_answer, answer_for, head_came, Piece, is_early, with_unread, head_piece_of, head_piece, deliver, payload_of, body_piece_of, body_piece, next_piece, got, is_whole_at_end, finish_first, ended, bring_row, is_readable}
@@ -207,7 +207,7 @@ note_sent-few e a at bytes s h = by_aim_of e.aim h (note_own-few e a at bytes s 
 
 join-few : {m l : ℕ} (b : Bound) (bytes : Bytes) (s : State) → Few m l s → Few m l (join b bytes s)
 unfolding join
-join-few b bytes s h = each_of (instance s b.instance) h (λ x. note_use-few _ (few (facts_of h)))
+join-few b bytes s h = each_of (joined_one b bytes s) h (λ x. note_use-few _ (few (facts_of h)))
 
 join_bound-few : {m l : ℕ} (e : Exchange) (bytes : Bytes) (s : State) → Few m l s → Few m l (join_bound e bytes s)
 unfolding join_bound

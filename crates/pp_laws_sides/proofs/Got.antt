@@ -12,7 +12,7 @@ use Rattle.pp_text.specs.Bytes.{is_empty}
 use Rattle.pp_law.specs.Chunks.{note_use}
 use Rattle.pp_law.specs.Connections.{conn, front_of_line, on_conn, close_conn}
 use Rattle.pp_law.specs.Lists.{Bytes}
-use Rattle.pp_law.specs.OwnHeads.{is_wrong_head, join, join_bound, moved_on, note_own, note_sent}
+use Rattle.pp_law.specs.OwnHeads.{is_wrong_head, join, joined_one, join_bound, moved_on, note_own, note_sent}
 use Rattle.pp_law.specs.Passing.{poured}
 use Rattle.pp_law.specs.Responses.{bad_head, bad_response, finish, asks_head, answer_with, end_if_empty, begin_answer, answer_for, head_came, Piece, is_early, with_unread, head_piece, deliver, payload_of, body_piece_of, body_piece, next_piece, got}
 use Rattle.pp_law.specs.Stages.{bound_of}
@@ -84,7 +84,7 @@ note_sent-named e a at bytes s h = by_aim_of e.aim h (note_own-named e a at byte
 
 join-named : {o : Names} {m : ℕ} (b : Bound) (bytes : Bytes) (s : State) → Holds (Named o m) s → Holds (Named o m) (join b bytes s)
 unfolding join note_use
-join-named b bytes s h = each_of (instance s b.instance) h (λ x. holds (facts_of h))
+join-named b bytes s h = each_of (joined_one b bytes s) h (λ x. holds (facts_of h))
 
 moved_same : (m : ℕ) (e : Exchange) → SameAsk (moved_on m e) e
 moved_same m e = by (bound_of e)

@@ -32,7 +32,7 @@ use Rattle.pp_law.specs.Due.{Due, Decide, CutOff, due_by_stage, due_cut, due_dec
 use Rattle.pp_law.specs.Leaving.{Leaving, ForAnother, ForMemory, BeforeDecision, before_decision, forgets_next, if_so, is_first, leaving_as, makes_room}
 use Rattle.pp_law.specs.Lists.{Bytes, change, first_some, is_some_with, is_this}
 use Rattle.pp_law.specs.Opening.{terms_behind, are_texts, begun, configured, is_at, is_opening, is_recovered, may_fail, names_file, opened_to, permits_configured, permits_listens, permits_rooted, settings_in, stuck, with_settings, woken}
-use Rattle.pp_law.specs.OwnHeads.{is_wrong_head, key_of, join, join_bound, moved_on, note_own, note_sent}
+use Rattle.pp_law.specs.OwnHeads.{is_wrong_head, key_of, join, joined_one, join_bound, moved_on, note_own, note_sent}
 use Rattle.pp_law.specs.Passing.{poured}
 use Rattle.pp_law.specs.Permits.{has_conn, has_room_for, is_due_decision, is_new_number, is_owed, is_permitted, is_same_decision, IsPermitted, may_cut, may_open, may_take, may_want_memory, permits, permits_broke, permits_dial, permits_taken}
 use Rattle.pp_law.specs.Phases.{phases, in_phase, is_awaiting, is_done, is_done_with, is_free, behind, next, come, come_to, come_to_decide, decides, deciding, due_victim, ending, may_decide, may_in}
@@ -142,7 +142,7 @@ note_sent-turn e a at bytes s h = by_aim_of e.aim h (note_own-turn e a at bytes 
 
 join-turn : (b : Bound) (bytes : Bytes) (s : State) → Holds Turn s → Holds Turn (join b bytes s)
 unfolding join note_use
-join-turn b bytes s h = each_of (instance s b.instance) h (λ x. holds (facts_of h))
+join-turn b bytes s h = each_of (joined_one b bytes s) h (λ x. holds (facts_of h))
 
 moved_same : (m : ℕ) (e : Exchange) → SameAsk (moved_on m e) e
 moved_same m e = by (bound_of e)

@@ -1,4 +1,5 @@
 -- What an origin sends keeps it: heads, bodies, ends. A response makes a row where nothing is on its way to the disk.
+use Rattle.pp_laws.proofs.Deliveries.{joined_there}
 use Rattle.std.proofs.Common.{◌≡◌, ◌≤◌, subst, ℕ, zero, suc, Bool, true, false, ◌==◌, ◌&&◌, ◌||◌, List, [], ◌∷◌, ◌++◌, drop, length, Option, Some, None, refl}
 use Rattle.std.specs.List.{list_any}
 use Rattle.pp_framing.specs.Body.{Outcome, Done, Going, Bad}
@@ -17,7 +18,7 @@ use Rattle.pp_valid.specs.declared.version.Version.{Version}
 use Rattle.pp_law.specs.Chunks.{joined}
 use Rattle.pp_law.specs.Connections.{conn, exchange, is_for, front_of_line, on_conn, attempts_of, without_shared_row, end_exchange, close_conn}
 use Rattle.pp_law.specs.Lists.{Bytes, is_some_with}
-use Rattle.pp_law.specs.OwnHeads.{key_of, tell, use_body, drop_answer, useless, times_for, renewed, renew, settle_on, renew_row, may_refresh, settle_known, known_version, settle, may_join, names_version, settle_unchanged, unchanged, is_of_another, forbids_sharing, not_shared, not_modified, clears_row, cleared_by, is_private_part, is_widened, relay_head, other_head, other_part, own_head, is_bound, lacks_next, count_elsewhere, part_head, filling_head, version_in, is_wrong_head, note_own, note_sent, join, join_bound}
+use Rattle.pp_law.specs.OwnHeads.{key_of, tell, use_body, drop_answer, useless, times_for, renewed, renew, settle_on, renew_row, may_refresh, settle_known, known_version, settle, may_join, names_version, settle_unchanged, unchanged, is_of_another, forbids_sharing, not_shared, not_modified, clears_row, cleared_by, is_private_part, is_widened, relay_head, other_head, other_part, own_head, is_bound, lacks_next, count_elsewhere, part_head, filling_head, version_in, is_wrong_head, note_own, note_sent, join, join_bound, joined_one}
 use Rattle.pp_law.specs.Passing.{pour}
 use Rattle.pp_law.specs.Responses.{skipping, skip_body, rested, close_this, may_go_on, finish, bad_response, bad_head, by_aim, asks_head, answer_with, end_if_empty, begin_answer, answer_for, head_came, Piece, is_early, with_unread, head_piece, deliver, payload_of, body_piece_of, body_piece, next_piece, got, is_whole_at_end, finish_first, ended, bring_row, is_readable}
 use Rattle.pp_law.specs.Stages.{on_passed, bound_of}
@@ -243,7 +244,7 @@ note_sent-keeps e a at bytes s h = by_aim_of e.aim h (note_own-keeps e a at byte
 
 join-keeps : {R : Like} (k0 : Closed R) (b : Bound) (bytes : Bytes) (s : State) → Holds R s → Holds R (join b bytes s)
 unfolding join
-join-keeps {R} k0 b bytes s h = each_so (instance s b.instance) (λ none. h) (λ x found. note_use-keeps _ (joined_to x found))
+join-keeps {R} k0 b bytes s h = each_so (joined_one b bytes s) (λ none. h) (λ x found. note_use-keeps _ (joined_to x (joined_there (is_empty bytes) (instance s b.instance) x found)))
   where
     joined_to : (x : Instance) → instance s b.instance ≡ Some x → Holds R (record s { chunks = joined x.id (extent_of s x) b.next bytes s.chunks })
     joined_to x found = holds (with_joined s.instances s.entries s.agenda.todo s.chunks _ s.next_instance k0

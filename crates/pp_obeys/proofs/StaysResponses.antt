@@ -201,7 +201,7 @@ note_sent-stays e a at bytes s h = by_aim_of e.aim h (note_own-stays e a at byte
 
 join-stays : {o : Frame} (b : Bound) (bytes : Bytes) (s : State) → Stays false o s → Stays false o (join b bytes s)
 unfolding join
-join-stays b bytes s h = each_of (instance s b.instance) h (λ x. note_use-stays _ (stays (frame_of h)))
+join-stays b bytes s h = each_of _ h (λ x. note_use-stays _ (stays (frame_of h)))
 
 join_bound-stays : {o : Frame} (e : Exchange) (bytes : Bytes) (s : State) → Stays false o s → Stays false o (join_bound e bytes s)
 unfolding join_bound

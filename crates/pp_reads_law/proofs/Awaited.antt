@@ -33,7 +33,7 @@ use Rattle.pp_pipe.specs.Line.{stepped}
 use Rattle.pp_pipe.specs.Reading.{Reading}
 use Rattle.pp_pipe.specs.declared.step.Step.{Step}
 use Rattle.pp_pipe.specs.declared.step.Step.TheVariants.{Head, Bad, Idle}
-use Rattle.pp_state.specs.Ends.{parts}
+use Rattle.pp_state.specs.Ends.{KeepsRest, parts}
 use Rattle.pp_state.specs.declared.state.State.{State as Turn}
 use Rattle.pp_states_law.proofs.Alone.{piped as pipe_is}
 use Rattle.pp_states_law.proofs.ReadOn.{heads_go_on}
@@ -104,7 +104,7 @@ module _ (number : ℕ → ℕ) (name : Bytes) (shelf : KeptMap) (x next : Both)
   here = remaining (b ∷ bytes) []
 
   abbrev Leads : Type 0
-  Leads = WaitsForMore number name next s k text behind ⊎ (HeadFails number name x next s n k e text behind ⊎ HeadIsThere shelf x next s n k e peer text behind)
+  Leads = WaitsForMore number name x next s k text behind ⊎ (HeadFails number name x next s n k e text behind ⊎ HeadIsThere shelf x next s n k e peer text behind)
 
   kn : k.number ≡ n
   kn = same_number k.number n (find_passes (is_conn n) s.conns k due.due.on.there)
@@ -129,6 +129,7 @@ module _ (number : ℕ → ℕ) (name : Bytes) (shelf : KeptMap) (x next : Both)
         (record {
           more = more;
           leaves = leaves ∙ ap (λ (t : Step). left_behind used t here) tells;
+          same = idle.0;
           shows =
               subst (λ (y : Sides). ShowsSides number name y waits_law)
               (sym (ap₂ (λ (q : Turn) (ps : List Peer). let y : Sides = record { parts = parts q; peers = ps } in y) idle.0 (idle.1 ∙ is ∙ ap (λ (t : Step). with_pipe n (stepped t left peer.pipe) x.peers) tells)))
@@ -168,6 +169,7 @@ module _ (number : ℕ → ℕ) (name : Bytes) (shelf : KeptMap) (x next : Both)
           leaves = leaves ∙ ap (λ (t : Step). left_behind used t here) tells;
           line = stepped Bad left peer.pipe;
           is = bad_is;
+          rest = subst (λ (q : Turn). KeepsRest q next.state) bad.delivers bad.makes.rest;
           shows = subst (λ (y : Sides). ShowsSides number name y (bad_head k s)) (sym bad_is) (bad_heads number name (sides_of x) s shows n k e (stepped Bad left peer.pipe) due.due due.none);
           law = law;
         }))

@@ -24,7 +24,7 @@ use Rattle.pp_pipe.specs.Authentication.{binds_connection}
 use Rattle.pp_pipe.specs.Front.{stays_open}
 use Rattle.pp_peers_law.proofs.Finds.{find_there}
 use Rattle.pp_valid.specs.declared.version.Version.{Version}
-use Rattle.pp_reads_law.specs.Empties.{ExchangesEndAlike, IsBehindHead, NoneIsPassed, going_to}
+use Rattle.pp_reads_law.specs.Empties.{ExchangesEndAlike, HasNotedBody, NoneIsPassed, going_to}
 
 -- ---- where its body goes is noted, or not; and all else of connections and exchanges stays
 
@@ -145,10 +145,10 @@ module _ (e : Exchange) where
 
 -- ---- so its exchange is there
 
-pub behind_of : (e : Exchange) (s t : State) → exchange s e.number ≡ Some e → Notes e.number s t → IsBehindHead e s t
+pub behind_of : (e : Exchange) (s t : State) → exchange s e.number ≡ Some e → Notes e.number s t → HasNotedBody e s t
 behind_of e s t known it = by it.body it.exchanges
   where
-    by : (o : Option Body) → t.exchanges ≡ noted_in e.number o s.exchanges → IsBehindHead e s t
+    by : (o : Option Body) → t.exchanges ≡ noted_in e.number o s.exchanges → HasNotedBody e s t
     by None same = record {
       body = e.body;
       asker = e.asker;

@@ -24,7 +24,7 @@ use Rattle.pp_peers_law.proofs.Finds.{find_there}
 use Rattle.pp_text.specs.Fields.{Field}
 use Rattle.pp_valid.specs.declared.version.Version.{Version}
 use Rattle.pp_reads_law.proofs.Behind.{Notes, behind_of, none_noted, notes_then, owns, relays, then_notes, throughs, told_use}
-use Rattle.pp_reads_law.specs.Empties.{AskerIs, HeadsNoteTheBody, IsBehindHead, NoneIsPassed, going_to}
+use Rattle.pp_reads_law.specs.Empties.{AskerIs, HeadsNoteTheBody, HasNotedBody, NoneIsPassed, going_to}
 
 -- ---- to whom nothing is passed
 
@@ -125,7 +125,7 @@ module _ (e : Exchange) (filling : is_some (filled_of e) ≡ true) (s : State) (
 
   -- or nothing is bound
   record Fills (u : State) : Type 0 where
-    behind : IsBehindHead e s u
+    behind : HasNotedBody e s u
     left : NoneIsPassed e u ⊎ (is_some_with is_bound (exchange u n) ≡ false)
 
   rows_over : (v w : State) → Untouched v w → w.clients ≡ v.clients → Rows v → Rows w
@@ -156,7 +156,7 @@ module _ (e : Exchange) (filling : is_some (filled_of e) ≡ true) (s : State) (
 
   -- ---- an attempt is lost
 
-  carries : (u w : State) → Untouched u w → NoneIsPassed e w → IsBehindHead e s u → IsBehindHead e s w
+  carries : (u w : State) → Untouched u w → NoneIsPassed e w → HasNotedBody e s u → HasNotedBody e s w
   carries u w same none was = record {
     body = was.body;
     asker = was.asker;
@@ -170,7 +170,7 @@ module _ (e : Exchange) (filling : is_some (filled_of e) ≡ true) (s : State) (
       by (inl is) = inl is
       by (inr lost) = inr (record { aim = lost.aim; none = lost.none; passed = none })
 
-  leaves : (w : State) → NoneIsPassed e w → IsBehindHead e s w → Fills (on_exchange n left_alone w)
+  leaves : (w : State) → NoneIsPassed e w → HasNotedBody e s w → Fills (on_exchange n left_alone w)
   unfolding on_exchange
   leaves w none was = record {
     behind = record {
@@ -194,7 +194,7 @@ module _ (e : Exchange) (filling : is_some (filled_of e) ≡ true) (s : State) (
   abbrev cost : Client → Client
   cost c = record c { course = lost_one (attempts_of e) c.course }
 
-  loses : (u : State) → NoneIsPassed e u → IsBehindHead e s u → Fills (lose_attempt e u)
+  loses : (u : State) → NoneIsPassed e u → HasNotedBody e s u → Fills (lose_attempt e u)
   unfolding lose_attempt charge give_up_row
   loses u none was = by (is_unfilled paid e)
     where
@@ -204,7 +204,7 @@ module _ (e : Exchange) (filling : is_some (filled_of e) ≡ true) (s : State) (
       paid_none : NoneIsPassed e paid
       paid_none = client_none e cost u (λ c. refl) (λ c is. is) none
 
-      paid_behind : IsBehindHead e s paid
+      paid_behind : HasNotedBody e s paid
       paid_behind = carries u paid (on_client_of-untouched e cost u) paid_none was
 
       cleared : State
@@ -216,7 +216,7 @@ module _ (e : Exchange) (filling : is_some (filled_of e) ≡ true) (s : State) (
       freed_none : NoneIsPassed e freed
       freed_none = client_none e without_row cleared (λ c. (row_less c).0) (λ c is. (row_less c).1 ∙ is) (as_before e paid cleared (cleared_clients (key_of e) paid) paid_none)
 
-      freed_behind : IsBehindHead e s freed
+      freed_behind : HasNotedBody e s freed
       freed_behind = carries paid freed (untouched_on paid cleared freed (clear-untouched (key_of e) paid) (on_client_of-untouched e without_row cleared)) freed_none paid_behind
 
       by : (b : Bool) → Fills (elim b as (λ t. State) [ false ↦ paid | true ↦ on_exchange n left_alone freed ])
@@ -296,26 +296,26 @@ module _ (e : Exchange) (filling : is_some (filled_of e) ≡ true) (s : State) (
       by (Some v) = settles head v s rows
       by None = fills_when (head.status == 304) (not_modified_so head s rows) (others head rule s rows)
 
-  counts : (u : State) → Fills u → IsBehindHead e s (count_elsewhere e u)
+  counts : (u : State) → Fills u → HasNotedBody e s (count_elsewhere e u)
   unfolding count_elsewhere
   counts u one = by one.left
     where
       lacks : Bool
       lacks = list_any (λ c. is_for e c && lacks_next u c) u.clients
 
-      some : NoneIsPassed e u → (b : Bool) → IsBehindHead e s (elim b as (λ t. State) [ true ↦ lose_attempt e u | false ↦ u ])
+      some : NoneIsPassed e u → (b : Bool) → HasNotedBody e s (elim b as (λ t. State) [ true ↦ lose_attempt e u | false ↦ u ])
       some none true = let lost : Fills (lose_attempt e u) = loses u none one.behind in lost.behind
       some none false = one.behind
 
-      unbound : (a b : Bool) → a ≡ false → IsBehindHead e s (elim (a && b) as (λ t. State) [ true ↦ lose_attempt e u | false ↦ u ])
+      unbound : (a b : Bool) → a ≡ false → HasNotedBody e s (elim (a && b) as (λ t. State) [ true ↦ lose_attempt e u | false ↦ u ])
       unbound true b is = absurd (cc is)
       unbound false b is = one.behind
 
-      by : NoneIsPassed e u ⊎ (is_some_with is_bound (exchange u n) ≡ false) → IsBehindHead e s (elim (is_some_with is_bound (exchange u n) && lacks) as (λ t. State) [ true ↦ lose_attempt e u | false ↦ u ])
+      by : NoneIsPassed e u ⊎ (is_some_with is_bound (exchange u n) ≡ false) → HasNotedBody e s (elim (is_some_with is_bound (exchange u n) && lacks) as (λ t. State) [ true ↦ lose_attempt e u | false ↦ u ])
       by (inl none) = some none (is_some_with is_bound (exchange u n) && lacks)
       by (inr none) = unbound (is_some_with is_bound (exchange u n)) lacks none
 
-  pub fillings : (head : Response) (rule : BodyRule) → NoneIsPassed e s → IsBehindHead e s (filling_head e head rule s)
+  pub fillings : (head : Response) (rule : BodyRule) → NoneIsPassed e s → HasNotedBody e s (filling_head e head rule s)
   unfolding filling_head
   fillings head rule none = counts (part_head e head rule s) (parts_so head rule (record { kept = untouched s; none = none }))
 
@@ -325,7 +325,7 @@ pub heads_note : HeadsNoteTheBody
 unfolding by_aim
 heads_note s e head rule none known = by e.aim refl
   where
-    by : (a : Aim) → e.aim ≡ a → IsBehindHead e s (elim a as (λ t. State) [ Through ↦ through_head e head rule s | Own ↦ own_head e head rule s | Filling v from to ↦ filling_head e head rule s ])
+    by : (a : Aim) → e.aim ≡ a → HasNotedBody e s (elim a as (λ t. State) [ Through ↦ through_head e head rule s | Own ↦ own_head e head rule s | Filling v from to ↦ filling_head e head rule s ])
     by Through is = behind_of e s (through_head e head rule s) known (throughs e head rule s)
     by Own is = behind_of e s (own_head e head rule s) known (owns e head rule s (ap (λ (a : Aim). elim a as (λ o. Option Version) [ Through ↦ None | Own ↦ None | Filling v from to ↦ Some v ]) is))
     by (Filling v from to) is =

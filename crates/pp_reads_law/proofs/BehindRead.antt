@@ -1,7 +1,8 @@
 -- Behind what came of an origin replies that are over end, and the turn stands behind them: the event is handled.
-use Rattle.std.proofs.Common.{◌≡◌, refl, sym, subst, ap, ◌∙◌, ℕ, Bool, false, ◌&&◌, not, length, map, List, Some}
+use Rattle.std.proofs.Common.{◌≡◌, ◌<◌, refl, sym, subst, ap, ◌∙◌, ℕ, Bool, false, ◌&&◌, not, length, map, List, Some}
 use Rattle.std.specs.Prelude.{slice_get}
 use Rattle.pp_cache.specs.Bounds.{IsBounded}
+use Rattle.pp_cache_law.proofs.Numbers.{some_is}
 use Rattle.pp_turns_law.specs.Sides.{ShowsSides}
 use Rattle.pp_turns_law.specs.Useless.{AllFollow}
 use Rattle.pp_desk.specs.Closings.{Sides, peer_numbers, sides}
@@ -21,11 +22,12 @@ use Rattle.pp_events_law.specs.Stands.{AreReadyAt, IsHandled, StandsAtEvent}
 use Rattle.pp_flow_law.specs.Tables.{AreGiven, none_leaves}
 use Rattle.pp_law.specs.After.{paid}
 use Rattle.pp_law.specs.Lists.{Bytes, has_number}
-use Rattle.pp_law.specs.Replies.{end_replies}
+use Rattle.pp_law.specs.Replies.{end_replies, regained}
 use Rattle.pp_law.specs.State.{State, Owed, Handling, Free}
 use Rattle.pp_laws.proofs.Sound.{client_number}
 use Rattle.pp_laws.specs.Numbers.{AreRising}
 use Rattle.pp_laws_replies.proofs.Quiet.{FactsOf}
+use Rattle.pp_objects.specs.declared.id.ObjectId.{ObjectId}
 use Rattle.pp_obeys.proofs.Frames.{Frame, frame}
 use Rattle.pp_proxy.specs.Moving.{Turning}
 use Rattle.pp_seats.specs.Heads.{is_there_in}
@@ -36,11 +38,12 @@ use Rattle.pp_seats.specs.declared.seat.Stage.{Stage}
 use Rattle.pp_state.specs.Ends.{numbers_of, parts}
 use Rattle.pp_state.specs.declared.state.State.{State as Turn}
 use Rattle.pp_states_law.specs.Steps.{ShowsSteps}
+use Rattle.pp_states_law.specs.Told.{IsTold}
 use Rattle.pp_turns_law.specs.Firsts.{AreAwake, IsAsleep}
 use Rattle.pp_reads_law.proofs.Passed.{all_may_end}
 use Rattle.pp_reads_law.specs.Goes.{AllGoOn}
-use Rattle.pp_reads_law.specs.Readable.{AreTold}
 use Rattle.pp_reads_law.specs.Stays.{AreStill, IsStill, KnowsAsMuch, WasStill}
+use Rattle.pp_reads_law.specs.Told.{StaysTold}
 
 silent_still : (seat new : Seat) → IsStill seat new → is_silent new ≡ is_silent seat
 silent_still seat new is =
@@ -156,15 +159,34 @@ module _ (number0 number : ℕ → ℕ) (owed : Owed) (x y : Turning) (s v : Sta
   unfolding paid
   behind_handled = record { handled = u; anew = refl; stands = behind_stands; follows = follow_of number name new.peers (parts new.state) (end_replies v) has_ended.shows.steps has_ended.may.follow }
 
+  pub behind_is : behind_handled.handled ≡ record (end_replies v) { owed = Free }
+  unfolding behind_handled
+  behind_is = refl
+
   left : AreLeft z.parts (parts new.state)
   left = replies_left awake z (sides new) has.ends
 
-  pub behind_ready : AreReadyAt number0 x.moving s → AreTold number y.moving (paid (end_replies v)) → StaysReady number x y (paid (end_replies v))
+  next_same : (paid (end_replies v)).next_instance ≡ v.next_instance
+  unfolding paid regained
+  next_same = ap (λ (t : State). t.next_instance) has_ended.rest
+
+  -- what an exchange joined that is told amid it
+  told_behind : (id : ObjectId) → IsTold number z.parts.cache v.next_instance id → IsTold number new.state.cache (paid (end_replies v)).next_instance id
+  told_behind id told = record {
+    given = subst (λ (n : ℕ). id.life < n) (sym left.lives) told.given;
+    made = subst (λ (n : ℕ). number id.life < n) (sym next_same) told.made;
+    apart = λ other there. told.apart other (left.there other there);
+  }
+
+  pub behind_ready : AreReadyAt number0 x.moving s → StaysTold number0 (parts p) s number z.parts v → StaysReady number x y (paid (end_replies v))
   behind_ready ready told given i seat at going =
       let amid : WasLeft z.parts.seats i seat = left.was i seat at in
       let was : WasStill p.seats.items i amid.old = has.still.was i amid.old amid.here in
+      let before : was.old.is_closing ≡ false = sym was.is.closing ∙ amid.is.going going in
       record {
         follows = behind_handled.follows i seat at going;
-        key = λ refused. (ready i was.old was.here (sym was.is.closing ∙ amid.is.going going)).key (given i was.old seat was.here at going refused);
-        joined = λ id plain joins. told i seat id plain at going joins;
+        key = λ refused. (ready i was.old was.here before).key (given i was.old seat was.here at going refused);
+        joined = λ id plain joins.
+            told_behind id
+            (told i (λ old one b here is. (ready i old here (ap (λ (o : Seat). o.is_closing) (some_is old was.old (sym here ∙ was.here)) ∙ before)).joined one b is) amid.old id plain amid.here (amid.is.joins id plain joins));
       }

@@ -172,7 +172,7 @@ module _ (number : ℕ → ℕ) (shelf : KeptMap) (x next : Both) (s : State) (n
   text = text_of k (b ∷ bytes)
 
   abbrev Result : Type 0
-  Result = StopsThere number next s n (b ∷ bytes) behind ⊎ HeadIsGotThere number shelf x next s n k e (b ∷ bytes) behind
+  Result = StopsThere number x next s n k (b ∷ bytes) behind ⊎ HeadIsGotThere number shelf x next s n k e (b ∷ bytes) behind
 
   from : ShowsSides number name (sides_of x) s
   from = sides_at number shelf x s shows
@@ -226,7 +226,7 @@ module _ (number : ℕ → ℕ) (shelf : KeptMap) (x next : Both) (s : State) (n
       none_some : {r : Remains} → None ≡ Some r → ⊥
       none_some same = absurd (cc same)
 
-      by : StopsThere number next s n (b ∷ bytes) behind ⊎ GoesOnBehind number shelf x next s n e (b ∷ bytes) behind → Result
+      by : StopsThere number x next s n k (b ∷ bytes) behind ⊎ GoesOnBehind number shelf x next s n e (b ∷ bytes) behind → Result
       by (inl it) = inl it
       by (inr it) = absurd (none_some (sym none ∙ it.leaves))
 
@@ -237,6 +237,8 @@ module _ (number : ℕ → ℕ) (shelf : KeptMap) (x next : Both) (s : State) (n
         there = clear.is;
         got = record {
           head = it.head;
+          text = text;
+          whole = it.whole;
           rule = it.rule;
           left = it.left;
           read = it.read;
@@ -272,7 +274,7 @@ module _ (number : ℕ → ℕ) (shelf : KeptMap) (x next : Both) (s : State) (n
       not_both : {head : Response} → Whole head ≡ More → ⊥
       not_both is = absurd (cc is)
 
-  by : WaitsForMore number name next s k text behind ⊎ (HeadFails number name x next s n k e text behind ⊎ HeadIsThere shelf x next s n k e peer text behind) → Result
+  by : WaitsForMore number name x next s k text behind ⊎ (HeadFails number name x next s n k e text behind ⊎ HeadIsThere shelf x next s n k e peer text behind) → Result
   by (inl it) = stops it.leaves
   by (inr (inl it)) = stops it.leaves
   by (inr (inr it)) = there it

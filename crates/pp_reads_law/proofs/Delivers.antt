@@ -114,12 +114,8 @@ same_then s t u one two = record {
 }
 
 none_joined : (b : Bound) (s : State) → IsSameState s (join b [] s)
-unfolding join note_use
-none_joined b s = by (instance s b.instance)
-  where
-    by : (o : Option Known) → IsSameState s (elim o as (λ t. State) [ None ↦ s | Some x ↦ note_use (record s { chunks = joined x.id (extent_of s x) b.next [] s.chunks }) ])
-    by None = as_it_was s
-    by (Some x) = record { clients = refl; conns = refl; exchanges = refl; next_exchange = refl; instances = refl; next_instance = refl; chunks = refl; kept = λ y. refl }
+unfolding join
+none_joined b s = as_it_was s
 
 none_moves : (n : ℕ) (s : State) → IsSameState s (on_exchange n (moved_on 0) s)
 unfolding on_exchange

@@ -48,7 +48,7 @@ use Rattle.pp_reads_law.specs.Heads.{HeadIsDue, HeadIsTaken, begun_by}
 use Rattle.pp_reads_law.specs.Wholes.{IsAnsweredOn, line_behind}
 use Rattle.pp_reads_law.proofs.Behind.{ends_alike}
 use Rattle.pp_reads_law.proofs.BehindFilling.{heads_note}
-use Rattle.pp_reads_law.specs.Empties.{EmptyBodiesEndAsTheLaws, EndsAtOnce, IsBehindHead, MayEnd, going_to}
+use Rattle.pp_reads_law.specs.Empties.{EmptyBodiesEndAsTheLaws, EndsAtOnce, HasNotedBody, MayEnd, going_to}
 
 -- ---- a body that ends before its first byte is empty, whatever follows
 
@@ -132,7 +132,7 @@ module _ (before : ℕ → ℕ) (shelf : KeptMap) (x y : Both) (s : State) (n : 
   known_begun : exchange begun e.number ≡ Some e
   known_begun = ap (λ (es : List Exchange). find (is_exchange e.number) es) ((set_conns k.number (answered_by a) brought).1 ∙ beside.exchanges) ∙ first.known
 
-  headed : IsBehindHead e begun t
+  headed : HasNotedBody e begun t
   headed = heads_note begun e head rule (λ filling c among asks. may.passed filling c (subst (λ (cs : List Client). IsIn c cs) ((set_conns k.number (answered_by a) brought).2 ∙ beside.clients) among) asks) known_begun
 
   abbrev e1 : Exchange

@@ -84,7 +84,8 @@ module _ (comes : HeadsComeAsTheLaws) (terms : List Term) (log : Log) (number : 
   read_behind = record {
     number = read.number;
     led = record { log = read.led.log; then = read.led.then; told = read.led.handled.told; leads = lead_joined (CanRead k ∷ []) read.led.log s v read.led.then owed.leads read.led.handled.leads; handled = read.led.handled.handled };
-    ready = λ told given. read.ready told (given_on x next y alike given);
+    ready = λ given. read.ready (given_on x next y alike given);
+    through = λ bytes is. record { woken = woken; wakes = reads.wakes; through = read.through bytes is };
   }
 
 pub origins_read : HeadsComeAsTheLaws → OriginReadsLead

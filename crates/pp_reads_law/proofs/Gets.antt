@@ -31,19 +31,20 @@ use Rattle.pp_proxy.specs.Handling.{ReceivesOn}
 use Rattle.pp_proxy.specs.Moving.{Turning}
 use Rattle.pp_reads_law.proofs.ReadWhole.{read_whole}
 use Rattle.pp_reads_law.specs.Heads.{HeadsComeAsTheLaws}
-use Rattle.pp_reads_law.specs.Reads.{IsRead}
+use Rattle.pp_reads_law.specs.Reads.{IsReadTo}
 use Rattle.pp_seats_law.specs.Seats.{ShowsSeat}
 use Rattle.pp_state.specs.Ends.{parts}
 use Rattle.pp_world.specs.Log.{Log}
-use Rattle.pp_reads_law.proofs.BehindRead.{StandsAmid, behind_handled, behind_ready}
+use Rattle.pp_reads_law.proofs.BehindRead.{StandsAmid, behind_handled, behind_is, behind_ready}
 use Rattle.pp_reads_law.proofs.Calm.{replies_calm}
 use Rattle.pp_reads_law.proofs.Knows.{knows_rest, knows_then}
 use Rattle.pp_reads_law.proofs.StayReads.{reads_stay}
 use Rattle.pp_reads_law.proofs.StillClients.{are_as, none, then}
 use Rattle.pp_reads_law.proofs.Supplied.{Moment, first, supplies}
 use Rattle.pp_reads_law.specs.Brings.{LeadsTo, ReadRestsOn}
-use Rattle.pp_reads_law.specs.Readable.{AreTold, IsBrought, MayBring, MayRead}
+use Rattle.pp_reads_law.specs.Readable.{IsBrought, IsReadThrough, MayBring, MayRead}
 use Rattle.pp_reads_law.specs.Stays.{KnowsAsMuch, StaysBeside}
+use Rattle.pp_reads_law.specs.Told.{IsToldAt}
 
 module _ (comes : HeadsComeAsTheLaws) (terms : List Term) (log : Log) (number0 : ℕ → ℕ) (k : ℕ) (x y : Turning) (s : State) (j : Conn) (obeys : Obeys terms s log) (stands : StandsAtEvent number0 Handling (ReadOf k) x.moving s) (ready : AreReadyAt number0 x.moving s) (may : MayRead k x s j) (brings : MayBring k x y s)
     (bounded : IsBounded y.moving.desk.state.cache) (calm : y.moving.desk.state.is_astray ≡ false) (receives : ReceivesOn k x y) (begins next : Both) (same : Makes (λ z. z) (both x.moving.desk) begins) (bytes : Bytes) (few : length bytes ≤ 32768) (brought : IsBrought k x y s bytes) (has_got : HasGot x.shelf k bytes begins next) (behind : EndsBehind (λ z. z) next (both y.moving.desk)) where
@@ -65,10 +66,10 @@ module _ (comes : HeadsComeAsTheLaws) (terms : List Term) (log : Log) (number0 :
   shown_old : ShowsSides number0 name (sides old) s
   shown_old = record { steps = stands.desk.turn.steps; may = stands.desk.may }
 
-  knows : KnowsAsMuch old.state begins.state
+  pub knows : KnowsAsMuch old.state begins.state
   knows = knows_rest old.state begins.state same.rest
 
-  words : HasWords begins.state s
+  pub words : HasWords begins.state s
   words = record {
     name = knows.name ∙ stands.desk.turn.name;
     shares = knows.shares ∙ stands.desk.turn.shares;
@@ -77,13 +78,13 @@ module _ (comes : HeadsComeAsTheLaws) (terms : List Term) (log : Log) (number0 :
     stopped = knows.stopped ∙ stands.desk.turn.stopped;
   }
 
-  bounded_first : IsBounded begins.state.cache
+  pub bounded_first : IsBounded begins.state.cache
   bounded_first = subst (λ (w : Sides). IsBounded w.parts.cache) (sym same.is) stands.desk.turn.bounded
 
-  next_calm : next.state.is_astray ≡ false
+  pub next_calm : next.state.is_astray ≡ false
   next_calm = replies_calm next.state.awake.items (sides_of next) (sides new) behind.is calm
 
-  rests : ReadRestsOn name x.shelf k begins s bytes next
+  pub rests : ReadRestsOn name x.shelf k begins s bytes next
   rests = brings.rests begins next bytes brought same has_got next_calm
 
   shown_begins : ShowsSides number0 name (sides_of begins) s
@@ -92,9 +93,12 @@ module _ (comes : HeadsComeAsTheLaws) (terms : List Term) (log : Log) (number0 :
   leads : LeadsTo x.shelf k begins next
   leads = record { more = 65600; behind = Some (remaining bytes []); then = has_got }
 
-  pub read : IsRead name next v
+  abbrev pub At : Both → State → Bytes → Type 0
+  At = Moment name x.shelf k begins s bytes words knows.name bounded_first next next_calm rests
+
+  pub read : IsReadTo At name x.shelf k number0 begins s next v
   read =
-      read_whole comes name x.shelf k next (Moment name x.shelf k begins s bytes words knows.name bounded_first next next_calm rests) (supplies name x.shelf k begins s bytes words knows.name bounded_first next next_calm rests) 65600 number0 begins s bytes
+      read_whole comes name x.shelf k next At (supplies name x.shelf k begins s bytes words knows.name bounded_first next next_calm rests) 65600 number0 begins s bytes
       (first name x.shelf k begins s bytes words knows.name bounded_first next next_calm rests leads number0 shown_begins) shown_begins (omega (arith, few)) has_got
 
   abbrev pub number : ℕ → ℕ
@@ -130,5 +134,19 @@ module _ (comes : HeadsComeAsTheLaws) (terms : List Term) (log : Log) (number0 :
   pub got_handled : IsHandled number y.moving (paid (end_replies v))
   got_handled = behind_handled number0 number (ReadOf k) x y s v (sides_of next) stands may.settled may.next rise amid bounded
 
-  pub got_ready : AreTold number y.moving (paid (end_replies v)) → StaysReady number x y (paid (end_replies v))
-  got_ready told = behind_ready number0 number (ReadOf k) x y s v (sides_of next) stands may.settled may.next rise amid bounded ready told
+  pub got_through : IsReadThrough k x y s bytes got_handled.handled
+  unfolding got_handled
+  got_through = record {
+    begins = begins;
+    next = next;
+    same = same;
+    brought = brought;
+    got_all = has_got;
+    behind = behind;
+    straight = next_calm;
+    ends = record { x = read.ends.x; s = read.ends.s; bytes = read.ends.bytes; holds = (read.ends.holds.pieces, read.ends.holds.is); last = read.ends.last };
+    law = behind_is number0 number (ReadOf k) x y s v (sides_of next) stands may.settled may.next rise amid bounded;
+  }
+
+  pub got_ready : StaysReady number x y (paid (end_replies v))
+  got_ready = behind_ready number0 number (ReadOf k) x y s v (sides_of next) stands may.settled may.next rise amid bounded ready (λ i told. read.told i (subst (λ (w : Sides). IsToldAt i number0 w.parts s) (sym same.is) told))

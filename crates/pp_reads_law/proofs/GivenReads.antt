@@ -123,7 +123,7 @@ reads_on (suc more) shelf k (Some here) x y it =
 -- ---- moments
 
 module _ (name : Bytes) (shelf : KeptMap) (n : ℕ) (w x : Both) (u s : Law) (more bytes : Bytes) where
-  behind_head : IsBehindHead shelf n w u more x s bytes → GoesOn w x
+  behind_head : IsBehindHead name shelf n w u more x s bytes → GoesOn w x
   behind_head it = on_then (parts w.state) (parts it.head.state) (parts x.state) came (by it.then)
     where
       before : Both
@@ -145,6 +145,6 @@ moments_on zero name shelf n begins x from s all bytes is = same_on begins x (ap
 moments_on (suc pieces) name shelf n begins x from s all bytes is =
     on_then (parts begins.state) (parts is.0.state) (parts x.state) (moments_on pieces name shelf n begins is.0 from is.1 all is.2 is.3) (by is.4)
   where
-    by : IsBehindHead shelf n is.0 is.1 is.2 x s bytes ⊎ IsBehindPiece name shelf n is.0 is.1 is.2 x s bytes → GoesOn is.0 x
+    by : IsBehindHead name shelf n is.0 is.1 is.2 x s bytes ⊎ IsBehindPiece name shelf n is.0 is.1 is.2 x s bytes → GoesOn is.0 x
     by (inl head) = behind_head name shelf n is.0 x is.1 s is.2 bytes head
     by (inr piece) = behind_piece name shelf n is.0 x is.1 s is.2 bytes piece

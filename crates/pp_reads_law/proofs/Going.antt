@@ -10,7 +10,7 @@ use Rattle.pp_law.specs.Chunks.{joined, note_use}
 use Rattle.pp_law.specs.Closing.{is_of}
 use Rattle.pp_law.specs.Connections.{exchange, is_client, is_conn, is_exchange, is_for, on_client_of, on_exchange}
 use Rattle.pp_law.specs.Lists.{Bytes, change, is_some_with, is_this}
-use Rattle.pp_law.specs.OwnHeads.{first_offset, join, join_bound, moved_on, note_own, note_sent, sent_as}
+use Rattle.pp_law.specs.OwnHeads.{first_offset, join, joined_one, join_bound, moved_on, note_own, note_sent, sent_as}
 use Rattle.pp_law.specs.Passing.{pour, poured}
 use Rattle.pp_law.specs.Responses.{deliver}
 use Rattle.pp_law.specs.Stages.{bound_of, on_passed, passed_of}
@@ -102,7 +102,7 @@ noted_rest e a at bytes s = by e.aim (is_empty bytes)
 
 join_rest : (b : Bound) (bytes : Bytes) (s : State) → ((join b bytes s).clients ≡ s.clients) × ((join b bytes s).conns ≡ s.conns) × ((join b bytes s).exchanges ≡ s.exchanges)
 unfolding join note_use
-join_rest b bytes s = by (instance s b.instance)
+join_rest b bytes s = by (joined_one b bytes s)
   where
     by : (o : Option Known) → let t : State = elim o as (λ t. State) [ None ↦ s | Some x ↦ note_use (record s { chunks = joined x.id (extent_of s x) b.next bytes s.chunks }) ] in (t.clients ≡ s.clients) × (t.conns ≡ s.conns) × (t.exchanges ≡ s.exchanges)
     by None = (refl, refl, refl)

@@ -150,13 +150,14 @@ module _ (number : ℕ → ℕ) (shelf : KeptMap) (x next : Both) (s : State) (n
   text = text_of k (b ∷ bytes)
 
   abbrev Leads : Type 0
-  Leads = StopsThere number next s n (b ∷ bytes) behind ⊎ GoesOnBehind number shelf x next s n e (b ∷ bytes) behind
+  Leads = StopsThere number x next s n k (b ∷ bytes) behind ⊎ GoesOnBehind number shelf x next s n e (b ∷ bytes) behind
 
-  waits : WaitsForMore number name next s k text behind → Leads
+  waits : WaitsForMore number name x next s k text behind → Leads
   waits it =
       inl
       (record {
         leaves = it.leaves;
+        way = inl (record { same = it.same; law = inr (text, gots s n k b bytes amid it.more) });
         shows =
             subst (λ (t : State). ShowsSides number name (sides_of next) t)
             (ap (λ (m : ℕ). on_conn m (with_unread text) s) (same_number k.number n (find_passes (is_conn n) s.conns k due.due.on.there)) ∙ sym (gots s n k b bytes amid it.more)) it.shows;
@@ -170,19 +171,26 @@ module _ (number : ℕ → ℕ) (shelf : KeptMap) (x next : Both) (s : State) (n
       let closing = bad_closes number past.then.settings.name (sides_of clear.begin) past.then from n past.before it.line clear.due.due.on e clear.due.due.front clear.due.due.whole in
       let same : sides_of next ≡ bad_response n (piped n it.line (sides_of clear.begin)) =
       it.is ∙ ap₂ (λ (q : Turn) (ps : List Peer). bad_response n (let z : Sides = record { parts = parts q; peers = ps } in z)) (sym clear.state) (sym (clear.pipes it.line)) in
+      let law : got (length (b ∷ bytes)) n (b ∷ bytes) s ≡ bad_head past.before past.then =
+      past.law
+      ∙ ap (λ (t : State). got past.less n (head_piece_of past.before text past.then).rest t) (it.law past.before past.then clear.due.due.front)
+      ∙ closed_got past.less n (head_piece_of past.before text past.then).rest (bad_head past.before past.then)
+      (closing_shown number past.then.settings.name (bad_response n (piped n it.line (sides_of clear.begin))) (bad_head past.before past.then) n closing.0 bad closing.1 closing.2) in
       inl
       (record {
         leaves = it.leaves;
+        way =
+            inr
+            (record {
+              quiet = amid.none;
+              line = it.line;
+              makes = record { is = it.is; rest = it.rest };
+              law = inl (record { before = past.before; then = past.then; exchange = e; stands = past.stands; due = clear.due.due; law = law });
+            });
         shows =
             subst (λ (own : Bytes). ShowsSides number own (sides_of next) (got (length (b ∷ bytes)) n (b ∷ bytes) s)) clear.named
             (subst (λ (z : Sides). ShowsSides number past.then.settings.name z (got (length (b ∷ bytes)) n (b ∷ bytes) s)) (sym same)
-            (subst (λ (t : State). ShowsSides number past.then.settings.name (bad_response n (piped n it.line (sides_of clear.begin))) t)
-            (sym
-            (past.law
-            ∙ ap (λ (t : State). got past.less n (head_piece_of past.before text past.then).rest t) (it.law past.before past.then clear.due.due.front)
-            ∙ closed_got past.less n (head_piece_of past.before text past.then).rest (bad_head past.before past.then)
-            (closing_shown number past.then.settings.name (bad_response n (piped n it.line (sides_of clear.begin))) (bad_head past.before past.then) n closing.0 bad closing.1 closing.2)))
-            bad));
+            (subst (λ (t : State). ShowsSides number past.then.settings.name (bad_response n (piped n it.line (sides_of clear.begin))) t) (sym law) bad));
       })
 
   fails : HeadFails number name x next s n k e text behind → Leads
@@ -226,7 +234,7 @@ module _ (number : ℕ → ℕ) (shelf : KeptMap) (x next : Both) (s : State) (n
       not_both : {head : Response} → Whole head ≡ More → ⊥
       not_both is = absurd (cc is)
 
-  by : WaitsForMore number name next s k text behind ⊎ (HeadFails number name x next s n k e text behind ⊎ HeadIsThere shelf x next s n k e peer text behind) → Leads
+  by : WaitsForMore number name x next s k text behind ⊎ (HeadFails number name x next s n k e text behind ⊎ HeadIsThere shelf x next s n k e peer text behind) → Leads
   by (inl it) = waits it
   by (inr (inl it)) = fails it
   by (inr (inr it)) = there it

@@ -2,7 +2,6 @@
 use Rattle.std.proofs.Common.{◌≡◌, ◌≤◌, inl, inr, refl, sym, subst, ap, ap₂, ◌∙◌, ℕ, Bool, true, false, not, ◌&&◌, ◌||◌, find, List, [], ◌∷◌, Option, Some, None, Result, Ok, Err, option_map, arith}
 use Rattle.std.specs.Prelude.{count_by, is_ok, is_some, nat_le, nat_lt, option_and_then, slice_get}
 use Rattle.pp_answers.specs.FinalHeads.{AnswersAsk, TakesHead, answer_to, roomed_by, rule_for}
-use Rattle.pp_answers_law.specs.Joined.{IsWhole}
 use Rattle.pp_answers_law.specs.Owns.{IsAtHead, IsShown}
 use Rattle.pp_answers_law.specs.Takes.{IsTaken as IsTakenBySteps, MayFill, MayPass, OwnAnswersAreTheLaws, PartAnswersAreTheLaws, PassedAnswersAreTheLaws, RulesAreTheLaws, law_rule}
 use Rattle.pp_cache_law.proofs.Finds.{find_passes}
@@ -50,6 +49,7 @@ use Rattle.pp_states_law.specs.States.{ShowsState}
 use Rattle.pp_states_law.proofs.Charged.{same_entry}
 use Rattle.pp_states_law.specs.Charges.{IsFor}
 use Rattle.pp_states_law.specs.Steps.{ShowsSteps, whole}
+use Rattle.pp_states_law.specs.Told.{IsTold}
 use Rattle.pp_store.specs.Kept.{KeptMap}
 use Rattle.pp_valid.specs.declared.version.Version.{Version}
 use Rattle.pp_reads_law.proofs.BadOnes.{bad_heads}
@@ -59,9 +59,9 @@ use Rattle.pp_reads_law.proofs.Fronts.{IsFront, is_front}
 use Rattle.pp_laws_replies.proofs.Quiet.{facts_of, quiet_same}
 use Rattle.pp_laws_replies.proofs.QuietHeads.{by_aim-quiet}
 use Rattle.pp_states_law.proofs.Told.{conn_next}
-use Rattle.pp_reads_law.proofs.HeadsTold.{bad_head_grows, head_told, refused_told, row_told, whole_by_own, whole_by_through}
+use Rattle.pp_reads_law.proofs.HeadsTold.{bad_head_grows, head_told, refused_told, row_told}
 use Rattle.pp_reads_law.proofs.RowsIn.{brought}
-use Rattle.pp_reads_law.specs.Told.{AllTold}
+use Rattle.pp_reads_law.specs.Told.{IsToldAt, StaysTold}
 use Rattle.pp_reads_law.specs.Amid.{IsAmidRead, ShowsRead}
 use Rattle.pp_reads_law.specs.Heads.{HeadIsDue, HeadIsRead, HeadIsRefused, HeadLeads, HeadsComeAsTheLaws, IsGivenBeside, IsGivenHead, MayAnswer, ShowsBoth, begun_by, with_head}
 use Rattle.pp_reads_law.specs.Rows.{MayMakeRoom}
@@ -223,7 +223,7 @@ module _ (rules : RulesAreTheLaws) (own_answers : OwnAnswersAreTheLaws) (passed_
 
   -- ---- it is refused
 
-  refuses : (number1 : ℕ → ℕ) (p between : Turn) → is_wrong_head e head ≡ true → ShowsRead number1 none_leaves x.peers shelf p beside → parts between ≡ parts p → sides_of y ≡ bad_response n (sides_of (record old { state = between })) → (AllTold number (parts x.state) s.next_instance → AllTold number1 (parts p) beside.next_instance) → HeadIsRefused number x y s k head
+  refuses : (number1 : ℕ → ℕ) (p between : Turn) → is_wrong_head e head ≡ true → ShowsRead number1 none_leaves x.peers shelf p beside → parts between ≡ parts p → sides_of y ≡ bad_response n (sides_of (record old { state = between })) → StaysTold number (parts x.state) s number1 (parts p) beside → HeadIsRefused number x y s k head
   refuses number1 p between is then same ends begins =
       let kept : IsBeside s beside = beside_brought e head s in
       let shown : ShowsSides number1 name (sides_of y) (head_came k head s) =
@@ -239,10 +239,10 @@ module _ (rules : RulesAreTheLaws) (own_answers : OwnAnswersAreTheLaws) (passed_
       record {
         number = number1;
         shows = shown;
-        told = λ told.
+        told = λ i told.
             refused_told number1 p (parts y.state) beside (head_came k head s) n old.peers then.turn.steps.shows.table.table shown.steps.shows.table.table
             (ap (λ (z : Sides). z.parts) (ends ∙ ap (λ (q : Parts). let z : Sides = record { parts = q; peers = old.peers } in bad_response n z) same))
-            (subst (λ (t : State). beside.next_instance ≤ t.next_instance) (sym (law_wrong is)) (bad_head_grows k beside)) (begins told);
+            (subst (λ (t : State). beside.next_instance ≤ t.next_instance) (sym (law_wrong is)) (bad_head_grows k beside)) i (begins i told);
       }
 
   -- ---- the answer begins
@@ -278,6 +278,9 @@ module _ (rules : RulesAreTheLaws) (own_answers : OwnAnswersAreTheLaws) (passed_
     may = record { few = shows.read.may.few; busy = shows.read.may.busy; given = shows.read.may.given };
     forgotten = shows.read.forgotten;
   }
+
+  begun_told : StaysTold number (parts x.state) s number (parts x.state) begun
+  begun_told i told seat id plain at is = subst (λ (m : ℕ). IsTold number x.state.cache m id) (sym (conn_next k.number (answered_by answer) s)) (told seat id plain at is)
 
   begun_room : MayMakeRoom begun
   unfolding on_conn
@@ -336,7 +339,6 @@ module _ (rules : RulesAreTheLaws) (own_answers : OwnAnswersAreTheLaws) (passed_
     passes_on pass = record {
       client = λ goes. let one = pass.client goes in record { number = one.number; client = one.client; asker = one.asker; there = ap (λ (cs : List Client). find (is_client one.number) cs) same_clients ∙ one.there };
       key = for_beside s brings e same_clients pass.key;
-      short = pass.short;
     }
 
     takes : is_wrong_head e head ≡ false → between.refused ≡ [] → between.is_astray ≡ false → AnswersAsk e.number head (answer_to head (entry_of e.number p.flow)) p (parts between) → IsShown number1 p.cache.lives brings.next_instance name none_leaves last_peers (parts between) (by_aim e head rule brings)
@@ -422,28 +424,21 @@ module _ (rules : RulesAreTheLaws) (own_answers : OwnAnswersAreTheLaws) (passed_
               subst (λ (ps : List Peer). ShowsSteps shown_then.number name none_leaves ps (parts y.state) (begun_by k e head rule s)) (sym peers)
               (subst (λ (q : Turn). ShowsSteps shown_then.number name none_leaves last_peers (parts q) (begun_by k e head rule s)) (sym state)
               (subst (λ (t : State). ShowsSteps shown_then.number name none_leaves last_peers (parts between) t) brings_is shown_then.shows));
-          told = λ own told.
-              subst (λ (t : State). AllTold shown_then.number (parts y.state) t.next_instance) brings_is
-              (subst (λ (q : Turn). AllTold shown_then.number (parts q) (by_aim e head rule brings).next_instance) (sym state)
-              (head_told one.number shown_then.number p between brings (by_aim e head rule brings) e.number entry head rule one.shows.turn.steps.shows.table.table shown_then.shows.shows.table.table (whole own)
-              (subst (λ (o : Option (Entry × BodyRule)). AnswersAsk e.number head o p (parts between)) answers taken.is) shown_then.keeps (facts_of (by_aim-quiet e head rule brings (quiet_same brings))).next
-              (row_told number one.number shelf x.state p begun brings e.number begun_read.turn.steps.shows.table.table one.shows.turn.steps.shows.table.table it.row one.keeps one.grows
-              (subst (λ (m : ℕ). AllTold number (parts x.state) m) (sym (conn_next k.number (answered_by answer) s)) told))));
+          told = λ i told.
+              subst (λ (t : State). IsToldAt i shown_then.number (parts y.state) t) brings_is
+              (subst (λ (q : Turn). IsToldAt i shown_then.number (parts q) (by_aim e head rule brings)) (sym state)
+              (head_told one.number shown_then.number name last_peers p between brings (by_aim e head rule brings) e.number entry head rule one.shows.turn.steps.shows.table.table shown_then.shows placed
+              (subst (λ (o : Option (Entry × BodyRule)). AnswersAsk e.number head o p (parts between)) answers taken.is) shown_then.keeps (facts_of (by_aim-quiet e head rule brings (quiet_same brings))).next i
+              (row_told number one.number shelf x.state p begun brings e.number begun_read.turn.steps.shows.table.table one.shows.turn.steps.shows.table.table it.row one.keeps one.grows i (begun_told i told))));
           peer = stayed;
           linked = ap (λ (ps : List Peer). find (is_number n) ps) peers ∙ stayed_there;
           stays = refl;
           law = law_right is;
         }
       where
-        whole : is_some (filled_of e) ≡ false → IsWhole entry.exchange.aim
-        whole none = by e.aim refl
-          where
-            by : (a : Aim) → e.aim ≡ a → IsWhole entry.exchange.aim
-            by Own own = whole_by_own entry.exchange.aim (shown.aim ∙ own)
-            by Through through = whole_by_through entry.exchange.aim (shown.aim ∙ through)
-            by (Filling v from to) filling =
-                let both : true ≡ false = sym (ap (λ (a : Aim). is_some (elim a as (λ o. Option Version) [ Through ↦ None | Own ↦ None | Filling w i j ↦ Some w ])) filling) ∙ none in
-                absurd (cc both)
+        placed : find (is_entry entry.exchange.number) p.flow.placed ≡ Some entry
+        placed =
+            ap₂ (λ (m : ℕ) (f : Exchanges). find (is_entry m) f.placed) (same_number entry.exchange.number e.number (find_passes (is_entry e.number) x.state.flow.placed entry on.there)) flow_same ∙ on.there
 
         goes_on : stays ≡ Some (stays_open head) → y ≡ record old { state = between; peers = staying n (stays_open head) (find (is_number n) old.peers) old.peers }
         goes_on is_it = subst (λ (o : Option Bool). GoesOnBehind o n (record old { state = between }) y) is_it it.answers.goes_on

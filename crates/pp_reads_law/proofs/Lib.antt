@@ -14,6 +14,7 @@ pub mod Early
 pub mod Ends
 pub mod EndsThere
 pub mod FillBeside
+pub mod FollowersTold
 pub mod Framed
 pub mod FromWait
 pub mod Fronts
@@ -29,6 +30,7 @@ pub mod HeadsTold
 pub mod KeysGiven
 pub mod Knows
 pub mod Lost
+pub mod MomentsGot
 pub mod NextEnded
 pub mod NotYet
 pub mod Nothing
@@ -40,6 +42,7 @@ pub mod QuietSteps
 pub mod ReadOn
 pub mod ReadWhole
 pub mod Reading
+pub mod ReadsTold
 pub mod Rooms
 pub mod RowsIn
 pub mod StayMoments

@@ -31,7 +31,7 @@ pour_next : (e : Exchange) (s : State) → (pour e finished s).next_instance ≡
 unfolding pour on_client_of
 pour_next e s = refl
 
-finish_next : (k : Conn) (e : Exchange) (a : Answer) (s : State) → (finish k e a s).next_instance ≡ s.next_instance
+pub finish_next : (k : Conn) (e : Exchange) (a : Answer) (s : State) → (finish k e a s).next_instance ≡ s.next_instance
 unfolding finish on_conn end_exchange
 finish_next k e a s = by (may_go_on e a.head)
   where

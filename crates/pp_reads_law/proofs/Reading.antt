@@ -38,10 +38,10 @@ use Rattle.pp_world.specs.declared.event.Side.TheVariants.{Origin as OfOrigin}
 use Rattle.pp_world.specs.declared.happening.Happening.TheVariants.{Broke, Ended, Got, Heard, HungUp, NoneYet}
 use Rattle.pp_world.specs.declared.wire.WireFault.{WireFault}
 use Rattle.pp_reads_law.proofs.Ends.{ended_handled, ended_ready}
-use Rattle.pp_reads_law.proofs.Gets.{got_handled, got_ready, number as number_behind}
+use Rattle.pp_reads_law.proofs.Gets.{got_handled, got_ready, got_through, number as number_behind}
 use Rattle.pp_reads_law.proofs.NotYet.{none_handled, none_ready}
 use Rattle.pp_reads_law.proofs.Rooms.{rooms_same}
-use Rattle.pp_reads_law.specs.Readable.{HasLedTold, IsBrought, MayBring, MayRead, ReadingsLead}
+use Rattle.pp_reads_law.specs.Readable.{HasLedTold, IsBrought, IsReadThrough, MayBring, MayRead, ReadingsLead}
 
 -- ---- lengths
 
@@ -59,6 +59,14 @@ fits n front room is same m some within = ap₂ (λ (a b : Bool). a && b) (at_le
 
     at_most : (m l : ℕ) → m ≤ l → nat_le m l ≡ true
     at_most m l le = grind (arith, nat_tests, le)
+
+got_in : Log → Bytes
+got_in (Got k bytes ∷ log) = bytes
+got_in log = []
+
+same_bytes : (k : ℕ) (one other : Bytes) → Got k one ∷ [] ≡ Got k other ∷ [] → one ≡ other
+unfolding got_in
+same_bytes k one other is = ap (λ (hs : Log). got_in hs) is
 
 few_enough : (front room m : ℕ) → front ≡ min room 32768 → m ≤ front → m ≤ 32768
 few_enough front room m is within = omega (arith, is, within)
@@ -105,7 +113,8 @@ module _ (comes : HeadsComeAsTheLaws) (terms : List Term) (log : Log) (number : 
             handled = none_handled number k x y s stands ready bounded receives same;
           };
         };
-        ready = λ all. none_ready number k x y s stands ready bounded receives same;
+        ready = none_ready number k x y s stands ready bounded receives same;
+        through = λ bytes is. absurd (let none : NoneYet k ∷ [] ≡ Got k bytes ∷ [] = is in cc none);
       }
 
   -- ---- it ended, or broke
@@ -122,7 +131,8 @@ module _ (comes : HeadsComeAsTheLaws) (terms : List Term) (log : Log) (number : 
         handled = ended_handled terms log number k x y s j obeys stands ready may bounded receives it.begins it.same true behind;
       };
     };
-    ready = λ all. ended_ready terms log number k x y s j obeys stands ready may bounded receives it.begins it.same true behind;
+    ready = ended_ready terms log number k x y s j obeys stands ready may bounded receives it.begins it.same true behind;
+    through = λ bytes is. absurd (let none : Ended k ∷ [] ≡ Got k bytes ∷ [] = is in cc none);
   }
 
   -- attempts count anew no more
@@ -145,7 +155,8 @@ module _ (comes : HeadsComeAsTheLaws) (terms : List Term) (log : Log) (number : 
         handled = ended_handled terms log number k x y s j obeys stands ready may bounded receives it.begins it.same false behind;
       };
     };
-    ready = λ all. ended_ready terms log number k x y s j obeys stands ready may bounded receives it.begins it.same false behind;
+    ready = ended_ready terms log number k x y s j obeys stands ready may bounded receives it.begins it.same false behind;
+    through = λ bytes is. absurd (let none : Broke k ∷ [] ≡ Got k bytes ∷ [] = is in cc none);
   }
 
   -- ---- bytes came
@@ -181,7 +192,10 @@ module _ (comes : HeadsComeAsTheLaws) (terms : List Term) (log : Log) (number : 
           handled = got_handled comes terms log number k x y s j obeys stands ready may brings bounded calm receives it.begins next it.same bytes few brought has_got behind;
         };
       };
-      ready = λ all. got_ready comes terms log number k x y s j obeys stands ready may brings bounded calm receives it.begins next it.same bytes few brought has_got behind (all bytes refl);
+      ready = got_ready comes terms log number k x y s j obeys stands ready may brings bounded calm receives it.begins next it.same bytes few brought has_got behind;
+      through = λ other is.
+          subst (λ (bs : Bytes). IsReadThrough k x y s bs (got_handled comes terms log number k x y s j obeys stands ready may brings bounded calm receives it.begins next it.same bytes few brought has_got behind).handled) (same_bytes k bytes other is)
+          (got_through comes terms log number k x y s j obeys stands ready may brings bounded calm receives it.begins next it.same bytes few brought has_got behind);
     }
 
   -- ---- by what was found

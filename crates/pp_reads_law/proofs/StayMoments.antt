@@ -25,7 +25,7 @@ step_still : (shelf : KeptMap) (n : ℕ) (here : Remains) (x y : Both) (behind :
 step_still shelf n here x y behind step = let one : StaysBeside x y = step_stays (going_on (find (is_number n) x.peers)) shelf n here x y behind step in one.clients
 
 module _ (name : Bytes) (shelf : KeptMap) (n : ℕ) (w x : Both) (u s : Law) (more bytes : Bytes) where
-  behind_head : IsBehindHead shelf n w u more x s bytes → SeatsStay w x
+  behind_head : IsBehindHead name shelf n w u more x s bytes → SeatsStay w x
   behind_head it = then_still w it.head x came (by it.then)
     where
       before : Both
@@ -46,6 +46,6 @@ unfolding IsMoment
 moments_stay zero name shelf n begins x from s all bytes is = same_still begins x (ap (λ (z : Both). z.state) is.0)
 moments_stay (suc pieces) name shelf n begins x from s all bytes is = then_still begins is.0 x (moments_stay pieces name shelf n begins is.0 from is.1 all is.2 is.3) (by is.4)
   where
-    by : IsBehindHead shelf n is.0 is.1 is.2 x s bytes ⊎ IsBehindPiece name shelf n is.0 is.1 is.2 x s bytes → SeatsStay is.0 x
+    by : IsBehindHead name shelf n is.0 is.1 is.2 x s bytes ⊎ IsBehindPiece name shelf n is.0 is.1 is.2 x s bytes → SeatsStay is.0 x
     by (inl head) = behind_head name shelf n is.0 x is.1 s is.2 bytes head
     by (inr piece) = behind_piece name shelf n is.0 x is.1 s is.2 bytes piece

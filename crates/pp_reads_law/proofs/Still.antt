@@ -97,7 +97,7 @@ module _ (number : ℕ → ℕ) (name : Bytes) (shelf : KeptMap) (x next : Both)
   body_is = ap (λ (bs : Bytes). (body_of a.rule bs).outcome) (all_of a.raw) ∙ going
 
   by_step : (used : ℕ) (step : Step) (left : Reading) (fed : List Peer) → used ≤ 0 → IsBodyRead a [] [] [] used step left → fed ≡ with_pipe n (stepped step left pipe) x.peers → TakesStep step shelf n [] (record x { peers = fed }) next
-      → behind ≡ left_behind used step (remaining [] []) → StandsStill number name next s behind
+      → behind ≡ left_behind used step (remaining [] []) → StandsStill number name x next s behind
   by_step used Head left fed within read is_fed takes leaves = absurd read
   by_step used (BodyStep from to) left fed within read is_fed takes leaves = absurd (omega (arith, within, read.some, read.within))
   by_step used End left fed within read is_fed takes leaves = absurd (not_over (sym body_is ∙ ap (λ (b : Delimited). b.outcome) read.body))
@@ -110,6 +110,7 @@ module _ (number : ℕ → ℕ) (name : Bytes) (shelf : KeptMap) (x next : Both)
       not_none same = absurd (cc same)
   by_step used Idle left fed within read is_fed takes leaves = record {
     leaves = leaves;
+    same = takes.0;
     shows =
         subst (λ (q : Turn). ShowsSides number name (record { parts = parts q; peers = next.peers }) s) (sym takes.0)
         (subst (λ (ps : List Peer). ShowsSides number name (record { parts = parts x.state; peers = ps }) s) (sym (takes.1 ∙ is_fed))
@@ -119,10 +120,10 @@ module _ (number : ℕ → ℕ) (name : Bytes) (shelf : KeptMap) (x next : Both)
         }));
   }
 
-  still_there : IsStepOn (going_on (find (is_number n) x.peers)) shelf n (remaining [] []) x next behind → StandsStill number name next s behind
+  still_there : IsStepOn (going_on (find (is_number n) x.peers)) shelf n (remaining [] []) x next behind → StandsStill number name x next s behind
   still_there on = by (subst (λ (o : Option Peer). IsStepOn o shelf n (remaining [] []) x next behind) goes on)
     where
-      by : IsStep shelf n peer (remaining [] []) x next behind → StandsStill number name next s behind
+      by : IsStep shelf n peer (remaining [] []) x next behind → StandsStill number name x next s behind
       by one =
           by_step one.told.0 one.told.1 one.feeds.left one.fed one.feeds.within
           (bodies a pipe.reading [] [] [] (awaited pipe.asks) one.told.0 one.told.1 one.feeds.left

@@ -13,7 +13,7 @@ use Rattle.pp_objects.specs.declared.id.ObjectId.{ObjectId}
 use Rattle.pp_state.specs.Ends.{Parts}
 use Rattle.pp_states_law.proofs.Made.{told_there}
 use Rattle.pp_states_law.specs.Told.{IsTold}
-use Rattle.pp_reads_law.specs.Told.{AllTold}
+use Rattle.pp_reads_law.specs.Told.{StaysTold}
 
 -- ---- the life of each instance was given
 
@@ -55,10 +55,21 @@ module _ (number new : ℕ → ℕ) (p q : Parts) (s t : State) (table : ShowsTa
           ap (λ (b : Bool). (id.slot == other.slot) && b) (differ id.life other.life (omega (arith, told.given, late))) ∙ and_false (id.slot == other.slot)
           ∙ sym (differ (new id.life) (new other.life) (omega (arith, same, told.made, later)))
 
-  pub step_told : JoinedOr (IsThereIn p q) p.seats q.seats → AllTold number p s.next_instance → AllTold new q t.next_instance
-  step_told joined told i seat id plain at is = by (joined i seat id plain at is)
+  -- where each that is joined in it is told
+  pub told_by : (G : ObjectId → Type 0) → ((id : ObjectId) → G id → IsTold new q.cache t.next_instance id) → JoinedOr G p.seats q.seats → StaysTold number p s new q t
+  told_by G tells joined i told seat id plain at is = by (joined i seat id plain at is)
     where
-      by : WasJoined p.seats i id ⊎ IsThereIn p q id → IsTold new q.cache t.next_instance id
-      by (inl was) = told_on id (told i was.old id was.plain was.here was.joined)
-      by (inr (inl before)) = told_on id (told_there number p.cache s id table before)
-      by (inr (inr there)) = told_there new q.cache t id then there
+      by : WasJoined p.seats i id ⊎ G id → IsTold new q.cache t.next_instance id
+      by (inl was) = told_on id (told was.old id was.plain was.here was.joined)
+      by (inr there) = tells id there
+
+  -- or is there, before it or behind it
+  pub told_here : (id : ObjectId) → is_there id p.cache.instances ≡ true → IsTold new q.cache t.next_instance id
+  told_here id before = told_on id (told_there number p.cache s id table before)
+
+  pub step_told : JoinedOr (IsThereIn p q) p.seats q.seats → StaysTold number p s new q t
+  step_told joined = told_by (IsThereIn p q) by joined
+    where
+      by : (id : ObjectId) → IsThereIn p q id → IsTold new q.cache t.next_instance id
+      by id (inl before) = told_here id before
+      by id (inr there) = told_there new q.cache t id then there

@@ -6,7 +6,8 @@ use Rattle.std.specs.Prelude.{◌≡◌, ◌⊎◌, ◌≤◌, ◌<◌, ◌+◌,
 use Rattle.std.specs.List.{find}
 use Rattle.pp_cache.specs.Bounds.{IsBounded}
 use Rattle.pp_framing.specs.declared.body.BodyRule.{BodyRule}
-use Rattle.pp_head.specs.Response.{Response}
+use Rattle.pp_head.specs.Read.{Whole}
+use Rattle.pp_head.specs.Response.{Response, response_at}
 use Rattle.pp_law.specs.Lists.{Bytes}
 use Rattle.pp_law.specs.Responses.{got, head_came}
 use Rattle.pp_law.specs.State.{State, Conn, Exchange}
@@ -37,6 +38,9 @@ pub record HeadIsGot (shelf : KeptMap) (next : Both) (s : State) (n : ℕ) (e : 
   pub head : Response
   pub rule : BodyRule
   pub left : Reading
+  -- it is that of a text
+  pub text : Bytes
+  pub whole : response_at text ≡ Whole head
   pub read : HeadIsRead e head rule left
   pub came : HeadCame shelf n (with_head n peer left begin) next
   -- as each cache is (IsStep of Gots of `pp_origins`)
@@ -57,4 +61,4 @@ pub record HeadIsGotThere (number : ℕ → ℕ) (shelf : KeptMap) (x next : Bot
 
 abbrev pub HeadsAreGotThere : Type 0
 HeadsAreGotThere = (number : ℕ → ℕ) (shelf : KeptMap) (x next : Both) (s : State) (n : ℕ) (k : Conn) (e : Exchange) (peer : Peer) (b : ℕ) (bytes : Bytes) (behind : Option Remains) → ShowsBoth number shelf x s → HeadIsDue x s n k e peer → IsAmidHead s n k
-    → IsStepOn (going_on (find (is_number n) x.peers)) shelf n (remaining (b ∷ bytes) []) x next behind → StopsThere number next s n (b ∷ bytes) behind ⊎ HeadIsGotThere number shelf x next s n k e (b ∷ bytes) behind
+    → IsStepOn (going_on (find (is_number n) x.peers)) shelf n (remaining (b ∷ bytes) []) x next behind → StopsThere number x next s n k (b ∷ bytes) behind ⊎ HeadIsGotThere number shelf x next s n k e (b ∷ bytes) behind

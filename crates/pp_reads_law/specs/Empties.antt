@@ -44,7 +44,7 @@ abbrev pub AskerIs : Exchange → Option ℕ → State → Type 0
 AskerIs e asker t = (asker ≡ e.asker) ⊎ HasLost e asker t
 
 -- behind a head the exchange goes on, and it is noted where its body goes; connections stay
-pub record IsBehindHead (e : Exchange) (s t : State) : Type 0 where
+pub record HasNotedBody (e : Exchange) (s t : State) : Type 0 where
   pub body : Body
   pub asker : Option ℕ
   pub known : exchange t e.number ≡ Some (going_to asker body e)
@@ -54,7 +54,7 @@ pub record IsBehindHead (e : Exchange) (s t : State) : Type 0 where
 
 -- whatever was asked
 abbrev pub HeadsNoteTheBody : Type 0
-HeadsNoteTheBody = (s : State) (e : Exchange) (head : Response) (rule : BodyRule) → (is_some (filled_of e) ≡ true → NoneIsPassed e s) → exchange s e.number ≡ Some e → IsBehindHead e s (by_aim e head rule s)
+HeadsNoteTheBody = (s : State) (e : Exchange) (head : Response) (rule : BodyRule) → (is_some (filled_of e) ≡ true → NoneIsPassed e s) → exchange s e.number ≡ Some e → HasNotedBody e s (by_aim e head rule s)
 
 -- wherever its body goes, it ends alike
 abbrev pub ExchangesEndAlike : Type 0

@@ -15,12 +15,14 @@ use Rattle.pp_peers.specs.Peers.{is_number}
 use Rattle.pp_peers.specs.declared.peers.Peer.{Peer}
 use Rattle.pp_pipe.specs.Reading.{Reading}
 use Rattle.pp_states_law.specs.Gots.{IsAmidHead}
+use Rattle.pp_reads_law.specs.Stops.{IsShut, StaysUnread}
 use Rattle.pp_store.specs.Kept.{KeptMap}
 use Rattle.pp_reads_law.specs.Heads.{HeadIsDue, HeadIsRead, ShowsBoth, with_head}
 
 -- the read is over with it
-pub record StopsThere (number : ℕ → ℕ) (next : Both) (s : State) (n : ℕ) (bytes : Bytes) (behind : Option Remains) : Type 0 where
+pub record StopsThere (number : ℕ → ℕ) (x next : Both) (s : State) (n : ℕ) (k : Conn) (bytes : Bytes) (behind : Option Remains) : Type 0 where
   pub leaves : behind ≡ None
+  pub way : StaysUnread x s n next (got (length bytes) n bytes s) ⊎ IsShut x s n k next (got (length bytes) n bytes s)
   pub shows : ShowsSides number s.settings.name (sides_of next) (got (length bytes) n bytes s)
 
 -- or a final head came, as Heads has it, where nothing but what precedes it is dropped; and these bytes follow
@@ -45,4 +47,4 @@ pub record GoesOnBehind (number : ℕ → ℕ) (shelf : KeptMap) (x next : Both)
 
 abbrev pub HeadsAreGotAsTheLaws : Type 0
 HeadsAreGotAsTheLaws = (number : ℕ → ℕ) (shelf : KeptMap) (x next : Both) (s : State) (n : ℕ) (k : Conn) (e : Exchange) (peer : Peer) (b : ℕ) (bytes : Bytes) (behind : Option Remains) → ShowsBoth number shelf x s → HeadIsDue x s n k e peer → IsAmidHead s n k
-    → IsStepOn (going_on (find (is_number n) x.peers)) shelf n (remaining (b ∷ bytes) []) x next behind → StopsThere number next s n (b ∷ bytes) behind ⊎ GoesOnBehind number shelf x next s n e (b ∷ bytes) behind
+    → IsStepOn (going_on (find (is_number n) x.peers)) shelf n (remaining (b ∷ bytes) []) x next behind → StopsThere number x next s n k (b ∷ bytes) behind ⊎ GoesOnBehind number shelf x next s n e (b ∷ bytes) behind

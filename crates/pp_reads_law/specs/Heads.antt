@@ -43,7 +43,7 @@ use Rattle.pp_store.specs.Kept.{KeptMap}
 use Rattle.pp_reads_law.specs.Amid.{ShowsRead}
 use Rattle.pp_reads_law.specs.Bads.{IsDue}
 use Rattle.pp_reads_law.specs.Rows.{IsGivenFor, MayMakeRoom}
-use Rattle.pp_reads_law.specs.Told.{AllTold}
+use Rattle.pp_reads_law.specs.Told.{StaysTold}
 
 -- what the program has shows the law's state, with its connections, which may be closed
 pub record ShowsBoth (number : ℕ → ℕ) (shelf : KeptMap) (x : Both) (s : State) : Type 0 where
@@ -106,9 +106,8 @@ begun_by k e head rule s = by_aim e head rule (on_conn k.number (answered_by (an
 pub record HeadIsTaken (before : ℕ → ℕ) (x y : Both) (s : State) (n : ℕ) (k : Conn) (e : Exchange) (head : Response) (rule : BodyRule) : Type 0 where
   pub number : ℕ → ℕ
   pub shows : ShowsSteps number s.settings.name none_leaves y.peers (parts y.state) (begun_by k e head rule s)
-  -- what exchanges of clients joined
-  -- but for the ask of a follower, which may be over behind its head
-  pub told : is_some (filled_of e) ≡ false → AllTold before (parts x.state) s.next_instance → AllTold number (parts y.state) (begun_by k e head rule s).next_instance
+  -- what exchanges of clients joined: also the ask of a follower, where the row that it made is cleared at once
+  pub told : StaysTold before (parts x.state) s number (parts y.state) (begun_by k e head rule s)
   pub peer : Peer
   pub linked : find (is_number n) y.peers ≡ Some peer
   pub stays : peer.stays ≡ stays_open head
@@ -118,7 +117,7 @@ pub record HeadIsTaken (before : ℕ → ℕ) (x y : Both) (s : State) (n : ℕ)
 pub record HeadIsRefused (before : ℕ → ℕ) (x y : Both) (s : State) (k : Conn) (head : Response) : Type 0 where
   pub number : ℕ → ℕ
   pub shows : ShowsSides number s.settings.name (sides_of y) (head_came k head s)
-  pub told : AllTold before (parts x.state) s.next_instance → AllTold number (parts y.state) (head_came k head s).next_instance
+  pub told : StaysTold before (parts x.state) s number (parts y.state) (head_came k head s)
 
 abbrev pub HeadLeads : (ℕ → ℕ) → Bool → Both → Both → State → ℕ → Conn → Exchange → Response → BodyRule → Type 0
 HeadLeads before true x y s n k e head rule = HeadIsRefused before x y s k head

@@ -17,5 +17,6 @@ pub mod Readable
 pub mod Reads
 pub mod Rows
 pub mod Stays
+pub mod Stops
 pub mod Told
 pub mod Wholes

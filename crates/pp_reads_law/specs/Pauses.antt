@@ -17,10 +17,11 @@ use Rattle.pp_reads_law.specs.Bads.{IsOpen}
 use Rattle.pp_store.specs.Kept.{KeptMap}
 
 -- the read is over, and what was shown is shown still
-pub record StandsStill (number : ℕ → ℕ) (name : Bytes) (next : Both) (s : State) (behind : Option Remains) : Type 0 where
+pub record StandsStill (number : ℕ → ℕ) (name : Bytes) (x next : Both) (s : State) (behind : Option Remains) : Type 0 where
   pub leaves : behind ≡ None
+  pub same : next.state ≡ x.state
   pub shows : ShowsSides number name (sides_of next) s
 
 abbrev pub PausesChangeNothing : Type 0
 PausesChangeNothing = (number : ℕ → ℕ) (name : Bytes) (shelf : KeptMap) (x next : Both) (s : State) (n : ℕ) (k : Conn) (a : Answer) (peer : Peer) (behind : Option Remains) → ShowsSides number name (sides_of x) s → IsOpen s n k → find (is_number n) x.peers ≡ Some peer → k.answer ≡ Some a
-    → (body_of a.rule a.raw).outcome ≡ Going → IsStepOn (going_on (find (is_number n) x.peers)) shelf n (remaining [] []) x next behind → StandsStill number name next s behind
+    → (body_of a.rule a.raw).outcome ≡ Going → IsStepOn (going_on (find (is_number n) x.peers)) shelf n (remaining [] []) x next behind → StandsStill number name x next s behind

@@ -6,8 +6,8 @@
 -- connection dialled, and not closed (IsOnDialled of pp_world), so that it is there; nobody is closing at a wait (`close_over`), and no reply is
 -- over (`AreSettled`). Whose response was begun is as in Breaks of pp_events_law, and that attempts count anew no more as in its Asks. Its client
 -- has room, as the wait wanted the connection read (`is_read` of pp_wants), and what it reads into is as long from the opening on (`HasBuffers`
--- of pp_desk).
-use Rattle.std.specs.Prelude.{◌≡◌, ◌<◌, ◌≤◌, ℕ, Bool, true, false, [], ◌∷◌, length, slice_get, vec_capacity, List, Some}
+-- of pp_desk). Where bytes came, what is behind the read can be told by all of its moments (IsReadThrough).
+use Rattle.std.specs.Prelude.{◌≡◌, ◌<◌, ◌≤◌, ℕ, true, false, [], ◌∷◌, length, slice_get, vec_capacity, List, Some}
 use Rattle.pp_cache.specs.Bounds.{IsBounded}
 use Rattle.pp_desk.specs.declared.desk.Desk.{Desk}
 use Rattle.pp_endings_law.specs.Gone.{IsAnswering}
@@ -18,23 +18,21 @@ use Rattle.pp_law.specs.After.{event, owing}
 use Rattle.pp_law.specs.Asking.{is_read, read_room}
 use Rattle.pp_law.specs.Connections.{conn}
 use Rattle.pp_law.specs.Lists.{Bytes}
-use Rattle.pp_law.specs.Replies.{regained}
+use Rattle.pp_law.specs.Replies.{end_replies, regained}
+use Rattle.pp_law.specs.Responses.{got}
 use Rattle.pp_law.specs.State.{State, Answer, Conn, Term, Awaiting, Handling, Free, ReadOf}
 use Rattle.pp_links.specs.Links.{IsLinked}
-use Rattle.pp_objects.specs.declared.id.ObjectId.{ObjectId}
 use Rattle.pp_obeys.specs.Obeys.{Obeys}
-use Rattle.pp_origins.specs.Gots.{Both, HasGot, Makes, both}
+use Rattle.pp_origins.specs.Gots.{Both, EndsBehind, HasGot, Makes, both}
 use Rattle.pp_proxy.specs.Handling.{Handles, ReceivesOn, Wakes}
-use Rattle.pp_proxy.specs.Moving.{Moving, Turning, at_desk}
-use Rattle.pp_seats.specs.declared.seat.Brought.TheVariants.{Joins}
+use Rattle.pp_proxy.specs.Moving.{Turning, at_desk}
 use Rattle.pp_seats.specs.declared.seat.Seat.{Seat}
 use Rattle.pp_state.specs.declared.state.State.{State as Turn}
-use Rattle.pp_states_law.specs.Told.{IsTold}
 use Rattle.pp_turns_law.specs.Turns.{IsFollowing}
 use Rattle.pp_world.specs.Log.{AppendsAll, Log}
 use Rattle.pp_world.specs.declared.event.Event.TheVariants.{Readable}
 use Rattle.pp_world.specs.declared.happening.Happening.TheVariants.{CanRead, Got}
-use Rattle.pp_reads_law.specs.Brings.{ReadRestsOn}
+use Rattle.pp_reads_law.specs.Brings.{ReadEnds, ReadRestsOn}
 use Rattle.pp_reads_law.specs.Goes.{AllGoOn}
 
 -- ---- what a read rests on
@@ -68,26 +66,38 @@ pub record MayBring (k : ℕ) (x y : Turning) (s : State) : Type 0 where
 
 -- ---- where it leads
 
--- what the response to its exchange joined is told by its number, of each client that goes on
-abbrev pub AreTold : (ℕ → ℕ) → Moving → State → Type 0
-AreTold number x s = (i : ℕ) (seat : Seat) (id : ObjectId) (plain : Bool) → slice_get x.desk.state.seats.items i ≡ Some seat → seat.is_closing ≡ false → seat.brought ≡ Joins id plain → IsTold number x.desk.state.cache s.next_instance id
-
--- of a read that brought bytes
-abbrev pub AreToldBehind : ℕ → (ℕ → ℕ) → Log → Moving → State → Type 0
-AreToldBehind k number log x s = (bytes : Bytes) → log ≡ Got k bytes ∷ [] → AreTold number x s
+-- bytes came: all moments of the read stand between where it began and where it ended, behind which replies that are over end
+pub record IsReadThrough (k : ℕ) (x y : Turning) (s : State) (bytes : Bytes) (handled : State) : Type 0 where
+  pub begins : Both
+  pub next : Both
+  pub same : Makes (λ z. z) (both x.moving.desk) begins
+  pub brought : IsBrought k x y s bytes
+  pub got_all : HasGot x.shelf k bytes begins next
+  pub behind : EndsBehind (λ z. z) next (both y.moving.desk)
+  pub straight : next.state.is_astray ≡ false
+  pub ends : ReadEnds x.moving.desk.state.name.items x.shelf k begins s bytes next (got (length bytes) k bytes s)
+  pub law : handled ≡ record (end_replies (got (length bytes) k bytes s)) { owed = Free }
 
 -- by whatever it adds. A row that came with it has a number, so that the numbers may be others. Each client that goes on can be decided
--- behind it; behind bytes, where what its exchange joined is told: of a row that a head brought no clause says so yet
+-- behind it
 pub record HasLedTold (k : ℕ) (x y : Turning) (s : State) : Type 0 where
   pub number : ℕ → ℕ
   pub led : HasLed number x y s
-  pub ready : AreToldBehind k number led.log y.moving led.then → StaysReady number x y led.then
+  pub ready : StaysReady number x y led.then
+  pub through : (bytes : Bytes) → led.log ≡ Got k bytes ∷ [] → IsReadThrough k x y s bytes led.handled.handled.handled
+
+-- the turn as it is woken, in which all of it is read through
+pub record IsReadAwake (k : ℕ) (x y : Turning) (s : State) (bytes : Bytes) (handled : State) : Type 0 where
+  pub woken : Desk
+  pub wakes : Wakes k x.moving.desk woken
+  pub through : IsReadThrough k (at_desk woken x) y (event (owing (ReadOf k) k s)) bytes handled
 
 -- the same from the wait on, which added the event itself before
 pub record HasLedToldBehind (k : ℕ) (x y : Turning) (s : State) : Type 0 where
   pub number : ℕ → ℕ
   pub led : HasLedBehind number (CanRead k) x y s
-  pub ready : AreToldBehind k number led.log y.moving led.then → StaysReady number x y led.then
+  pub ready : StaysReady number x y led.then
+  pub through : (bytes : Bytes) → led.log ≡ Got k bytes ∷ [] → IsReadAwake k x y s bytes led.handled.handled
 
 -- from where the read is owed, where this life does not go astray in it
 abbrev pub ReadingsLead : Type 0

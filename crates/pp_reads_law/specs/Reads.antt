@@ -26,6 +26,8 @@ use Rattle.pp_reads_law.specs.Heads.{IsGivenHead, MayAnswer, ShowsBoth, with_hea
 use Rattle.pp_reads_law.specs.Pieces.{IsAmidBody, IsWithinBody, PieceIsOver, data_in}
 use Rattle.pp_reads_law.specs.Clears.{HeadIsGot, StandsBefore}
 use Rattle.pp_reads_law.specs.Empties.{MayEnd}
+use Rattle.pp_reads_law.specs.Stops.{EndsAt}
+use Rattle.pp_reads_law.specs.Told.{StaysTold}
 
 -- ---- what a piece rests on
 
@@ -68,11 +70,11 @@ pub record Supplies (name : Bytes) (shelf : KeptMap) (n : ℕ) (y : Both) (I : B
   -- of the law alone
   pub awaits : (x : Both) (s : State) (bytes : Bytes) (k : Conn) (e : Exchange) → I x s bytes → IsDue s n k e → k.answer ≡ None → IsAwaited k e
   -- as Heads and Empties have it
-  pub heads : (number : ℕ → ℕ) (x next : Both) (s : State) (k : Conn) (e : Exchange) (bytes : Bytes) (behind : Option Remains) (more : ℕ) → I x s bytes → GotFrom more shelf n behind next y → (there : StandsBefore number shelf x s n k e) (it : HeadIsGot shelf next s n e bytes behind there.begin there.then there.before there.peer)
+  pub heads : (number : ℕ → ℕ) (x next : Both) (s : State) (k : Conn) (e : Exchange) (bytes : Bytes) (behind : Option Remains) (more : ℕ) → I x s bytes → k.answer ≡ None → GotFrom more shelf n behind next y → (there : StandsBefore number shelf x s n k e) (it : HeadIsGot shelf next s n e bytes behind there.begin there.then there.before there.peer)
       → SuppliesHead shelf n y I next s e bytes behind there.begin there.then there.before there.peer it
   -- as Pieces and Data have it; and behind the piece
   pub bodies : (x : Both) (s : State) (k : Conn) (a : Answer) (bytes : Bytes) → I x s bytes → IsOpen s n k → k.answer ≡ Some a → SuppliesBody x s n k a bytes
-  pub behind : (number : ℕ → ℕ) (x z next : Both) (s : State) (k : Conn) (a : Answer) (peer : Peer) (e : Exchange) (b : ℕ) (bytes : Bytes) (here : Remains) (after : Option Remains) (more : ℕ) → I x s (b ∷ bytes) → IsWithinBody x s n k a peer e → IsAmidBody x z n peer a (b ∷ bytes) here
+  pub behind : (number : ℕ → ℕ) (x z next : Both) (s : State) (k : Conn) (a : Answer) (peer : Peer) (e : Exchange) (b : ℕ) (bytes : Bytes) (here : Remains) (after : Option Remains) (more : ℕ) → I x s (b ∷ bytes) → ShowsSides number name (sides_of x) s → IsWithinBody x s n k a peer e → MayGo x.state s e (data_in a (b ∷ bytes)) → IsAmidBody x z n peer a (b ∷ bytes) here
       → IsStepOn (going_on (find (is_number n) z.peers)) shelf n here z next after → GotFrom more shelf n after next y → PieceIsOver number name next s k a (b ∷ bytes) after → I next (body_piece k a (b ∷ bytes) s).state (body_piece k a (b ∷ bytes) s).rest
 
 -- ---- what it brings
@@ -80,6 +82,14 @@ pub record Supplies (name : Bytes) (shelf : KeptMap) (n : ℕ) (y : Both) (I : B
 pub record IsRead (name : Bytes) (y : Both) (t : State) : Type 0 where
   pub number : ℕ → ℕ
   pub shows : ShowsSides number name (sides_of y) t
+
+-- and how it ended, behind a moment of which that holds
+pub record IsReadTo (I : Both → State → Bytes → Type 0) (name : Bytes) (shelf : KeptMap) (n : ℕ) (before : ℕ → ℕ) (x : Both) (s : State) (y : Both) (t : State) : Type 0 where
+  pub number : ℕ → ℕ
+  pub shows : ShowsSides number name (sides_of y) t
+  pub ends : EndsAt I name shelf n y t
+  -- what exchanges of clients joined
+  pub told : StaysTold before (parts x.state) s number (parts y.state) t
 
 -- of what passes a test
 abbrev pub Passes : (Both → State → Bytes → Bool) → Both → State → Bytes → Type 0

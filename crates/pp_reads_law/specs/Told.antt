@@ -1,6 +1,7 @@
 -- What exchanges of clients joined is told by its number, amid a read of an origin and behind it (RFC 2616, section 13.5.4; ours).
 --
--- Behind a head HeadIsTaken and HeadIsRefused of Heads have it; here of each other step of the pipe.
+-- Of each client by itself. Behind a head HeadIsTaken and HeadIsRefused of Heads have it, and behind a whole read IsReadTo of Reads; here of each
+-- other step of the pipe.
 --
 -- Where the premises come from: the turn shows the law's table before the step and behind it (ShowsSides of `pp_turns_law`), and the law takes no
 -- number back (`got-quiet` in proofs/QuietHeads of `pp_laws_replies`).
@@ -17,9 +18,13 @@ use Rattle.pp_state.specs.Ends.{Parts, parts}
 use Rattle.pp_states_law.specs.Told.{IsTold}
 use Rattle.pp_store.specs.Kept.{KeptMap}
 
--- of each client
-abbrev pub AllTold : (ℕ → ℕ) → Parts → ℕ → Type 0
-AllTold number p next = (i : ℕ) (seat : Seat) (id : ObjectId) (plain : Bool) → slice_get p.seats i ≡ Some seat → seat.brought ≡ Joins id plain → IsTold number p.cache next id
+-- of the client at this place
+abbrev pub IsToldAt : ℕ → (ℕ → ℕ) → Parts → State → Type 0
+IsToldAt i number p s = (seat : Seat) (id : ObjectId) (plain : Bool) → slice_get p.seats i ≡ Some seat → seat.brought ≡ Joins id plain → IsTold number p.cache s.next_instance id
+
+-- what each joined that was told by these numbers is told by those
+abbrev pub StaysTold : (ℕ → ℕ) → Parts → State → (ℕ → ℕ) → Parts → State → Type 0
+StaysTold before p s number q t = (i : ℕ) → IsToldAt i before p s → IsToldAt i number q t
 
 abbrev pub IsNoHead : Step → Type 0
 IsNoHead Head = ⊥
@@ -31,4 +36,4 @@ IsNoHead Idle = ⊤
 -- by the same numbers: nothing is joined in it
 abbrev pub StepsLeaveAllTold : Type 0
 StepsLeaveAllTold = (number : ℕ → ℕ) (step : Step) (shelf : KeptMap) (k : ℕ) (came : List ℕ) (x y : Both) (s t : State) → IsNoHead step → TakesStep step shelf k came x y → ShowsTable number x.state.cache s → ShowsTable number y.state.cache t → s.next_instance ≤ t.next_instance
-    → AllTold number (parts x.state) s.next_instance → AllTold number (parts y.state) t.next_instance
+    → StaysTold number (parts x.state) s number (parts y.state) t

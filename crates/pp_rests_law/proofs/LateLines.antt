@@ -10,7 +10,7 @@ use Rattle.pp_law.specs.Chunks.{note_use}
 use Rattle.pp_law.specs.Closing.{left_alone}
 use Rattle.pp_law.specs.Connections.{conn, exchange, front_of_line, is_conn, is_exchange, on_conn, on_exchange, close_conn, unplaced}
 use Rattle.pp_law.specs.Lists.{Bytes, change}
-use Rattle.pp_law.specs.OwnHeads.{is_wrong_head, join, join_bound, key_of, moved_on, note_own, note_sent}
+use Rattle.pp_law.specs.OwnHeads.{is_wrong_head, join, joined_one, join_bound, key_of, moved_on, note_own, note_sent}
 use Rattle.pp_law.specs.Responses.{Piece, answer_for, answer_with, asks_head, bad_head, bad_response, begin_answer, body_piece, body_piece_of, deliver, end_if_empty, finish, got, head_came, head_piece, is_early, next_piece, payload_of, with_unread}
 use Rattle.pp_law.specs.Stages.{bound_of}
 use Rattle.pp_law.specs.State.{State, Answer, Bound, Conn, Exchange, Joining}
@@ -138,7 +138,7 @@ module _ (ks : List Bytes) (n : ℕ) where
 
   join-keeps : (b : Bound) (bytes : Bytes) (s : State) → Lined s → Lined (join b bytes s)
   unfolding join note_use
-  join-keeps b bytes s h = each_of (instance s b.instance) h (λ x. holds (facts_of h))
+  join-keeps b bytes s h = each_of (joined_one b bytes s) h (λ x. holds (facts_of h))
 
   pub join_bound-keeps : (e : Exchange) (bytes : Bytes) (s : State) → Lined s → Lined (join_bound e bytes s)
   unfolding join_bound

@@ -49,7 +49,7 @@ pub record StopSupplies (terms : List Term) (most : ℕ) (shelf : KeptMap) (I : 
   pub decides : Supplies terms most shelf I
   -- each decision, and each cut, leads there
   pub at : (before : Log) (peers : List Peer) (p : Turn) (s : State) → IsMoment terms most before peers shelf p s → I p s → s.phase ≡ Deciding
-  -- as `RestsOn` of `pp_deciding_law` has it: no source yet
+  -- as `RestsOn` of `pp_deciding_law` has it (`stopped_ones_end` of `pp_turn_law`)
   pub going : (before : Log) (peers : List Peer) (p : Turn) (s : State) → IsMoment terms most before peers shelf p s → I p s → list_any is_over s.exchanges ≡ false
 
 pub record StandsAtStop (shelf : KeptMap) (x : Moving) (s : State) : Type 0 where

@@ -31,7 +31,7 @@ pub record MayStop (x : Moving) (s : State) : Type 0 where
   -- each client and each connection that is there is open, from one opening, dial and closing to the next
   pub clients : AreOpen (numbers_of x.desk.state.seats.items) x.links
   pub origins : AreLinked (peer_numbers x.desk.peers) x.links
-  -- no exchange is nobody's and nowhere: so behind Evicting, where those are given up (Takes.`RestsOn` of `pp_deciding_law`); no source yet
+  -- no exchange is nobody's and nowhere: so behind Evicting, where those are given up (Takes.`RestsOn` of `pp_deciding_law`)
   pub going : list_any is_over s.exchanges ≡ false
 
 -- two phases are left without a happening; the closings may come then, one behind the other, and lead to a state in which nobody is there,

@@ -180,5 +180,5 @@ pub all_turns : TurnsGoOnUpTo
 all_turns life budget most log after x y s takes st all well told few brief = up_to life budget after y takes well told few brief most log x s st all
 
 pub all_lives : EventsAreTaken → LivesGoOn
-all_lives taken life budget most log after conf p shelf top faults y s supplied it name size allows all well told few brief =
-    from_first life budget after y (taken life budget supplied) well told few brief log conf p shelf top faults s it name size allows most all
+all_lives taken life budget most log after conf p shelf top faults y s it name size allows all well told few brief =
+    from_first life budget after y (taken life budget) well told few brief log conf p shelf top faults s it name size allows most all

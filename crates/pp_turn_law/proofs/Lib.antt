@@ -1,4 +1,3 @@
-pub mod AllTaken
 pub mod AllTurns
 pub mod Along
 pub mod Awaited
@@ -19,6 +18,9 @@ pub mod HandledFrom
 pub mod HandledSo
 pub mod Headlines
 pub mod Kept
+pub mod LeftAlike
+pub mod LeftClosed
+pub mod LeftLogs
 pub mod LifeNamed
 pub mod LifeServed
 pub mod LivesWake
@@ -30,7 +32,7 @@ pub mod NextWait
 pub mod OfCalls
 pub mod Order
 pub mod OrderTurns
-pub mod PlainOnes
+pub mod EventsTaken
 pub mod ReadSo
 pub mod Runs
 pub mod ServedOn

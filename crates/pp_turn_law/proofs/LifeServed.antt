@@ -29,7 +29,6 @@ use Rattle.pp_turn_law.proofs.FewNames.{few_names}
 use Rattle.pp_turn_law.proofs.FirstCounts.{afforded, counted, listened_allow}
 use Rattle.pp_turn_law.proofs.FirstOver.{opened_sized}
 use Rattle.pp_turn_law.proofs.LifeNamed.{named_told}
-use Rattle.pp_turn_law.specs.Brought.{BytesAreSupplied}
 use Rattle.pp_turn_law.specs.Lives.{IsLawfulToItsEnd, ServedLivesAreLawful, Wakes}
 use Rattle.pp_turn_law.specs.Opening.{opened_at}
 use Rattle.pp_turn_law.specs.Served.{most_happenings}
@@ -46,7 +45,7 @@ not_astray : (astray : Bool) → Served ≡ served_as astray → astray ≡ fals
 not_astray false is = refl
 not_astray true is = absurd (cc is)
 
-module _ (go : LivesGoOn) (life : Life) (budget : ℕ) (strings : List (String Global)) (files : Files) (before after : Log) (x y : Outside) (supplied : BytesAreSupplied life budget)
+module _ (go : LivesGoOn) (life : Life) (budget : ℕ) (strings : List (String Global)) (files : Files) (before after : Log) (x y : Outside)
     (wakes : Wakes life budget (map string_bytes strings) files before x) (served : HasServed (map string_bytes strings) Served x y) (told : y.log ≡ Some after) (few : y.faults ≤ budget + life.base) (brief : length after < most_happenings) where
   abbrev words : List Bytes
   words = map string_bytes strings
@@ -124,7 +123,7 @@ module _ (go : LivesGoOn) (life : Life) (budget : ℕ) (strings : List (String G
 
   gone : HasGoneOn life budget log end
   gone =
-      go life budget conf.max_turns log after conf lived.first lived.shelf listening.top listening.faults end listened.comes.then supplied begins
+      go life budget conf.max_turns log after conf lived.first lived.shelf listening.top listening.faults end listened.comes.then begins
       (subst (λ (name : Bytes). length name ≤ 64) (sym lived.is_opened.set.name) (named_told words served.text (shown_conf conf) served.read.says))
       (opened_sized terms words served.text log conf lived.first lived.shelf listening.top listened.comes.then settings begins) allows turns straight told few brief
 
@@ -142,4 +141,4 @@ module _ (go : LivesGoOn) (life : Life) (budget : ℕ) (strings : List (String G
   }
 
 pub served_lawful : LivesGoOn → ServedLivesAreLawful
-served_lawful go life budget words files before after x y supplied wakes served told few brief = lawful_to_its_end go life budget words files before after x y supplied wakes served told few brief
+served_lawful go life budget words files before after x y wakes served told few brief = lawful_to_its_end go life budget words files before after x y wakes served told few brief

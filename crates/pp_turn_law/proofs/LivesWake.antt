@@ -9,6 +9,7 @@ use Rattle.pp_world.specs.Connections.{top_of}
 use Rattle.pp_world.specs.Disk.{is_rising}
 use Rattle.pp_world.specs.Files.{Files}
 use Rattle.pp_world.specs.declared.happening.Happening.TheVariants.{Woke}
+use Rattle.pp_turn_law.proofs.LeftLogs.{left as disk_left}
 use Rattle.pp_turn_law.specs.Waking.{FirstLivesWake, LaterLivesWake, first_life}
 
 first_may : (terms : List Term) (files : Files) → is_rising (map (λ file. file.0) files) ≡ true → is_first_image files ≡ true → IsPermitted (start terms) (Woke files)
@@ -37,7 +38,7 @@ pub later_wake : LaterLivesWake
 later_wake life budget words files before x s obeys later rising left words_are faults told top counted = record {
   state = s;
   obeys = obeys;
-  may = crashes_may s files later rising left;
+  may = crashes_may s files later rising ((disk_left (life.terms budget) s before files obeys).to left);
   words_are = words_are;
   faults = faults;
   told = told;

@@ -1,6 +1,11 @@
 -- From the end of a turn, over its wait, to where an origin is read.
 use Rattle.std.proofs.Common.{◌≡◌, ◌≤◌, ◌⊎◌, inl, inr, refl, sym, subst, ap, ◌∙◌, ℕ, ◌+◌, Bool, false, ◌&&◌, cond, List, [], ◌∷◌, ◌++◌, append_assoc, length, take, Option, Some, None, Ok, Err, arith}
 use Rattle.std.specs.Prelude.{count_by, vec_capacity}
+use Rattle.pp_reads_law.specs.Readable.{IsReadAwake}
+use Rattle.pp_given_law.specs.MayNote.{most_names}
+use Rattle.pp_given_law.specs.Reads.{CountedAsRead}
+use Rattle.pp_joints_law.specs.ReadsNoteAll.{NotesThere}
+use Rattle.pp_joints_law.specs.ReadsCome.{ReadsComeBehind, ReadsNoteAmid}
 use Rattle.pp_cache_law.proofs.PairLemmas.{count_first}
 use Rattle.pp_turns_law.proofs.Peers.{HasPeer, linked}
 use Rattle.pp_comes_law.proofs.KeptOpen.{goes_on}
@@ -8,7 +13,7 @@ use Rattle.pp_comes_law.proofs.OriginReads.{wanted}
 use Rattle.pp_comes_law.proofs.OriginWanted.{IsWanted}
 use Rattle.pp_comes_law.specs.Moments.{MayBringBeside}
 use Rattle.pp_conf.specs.Conf.{Settings}
-use Rattle.pp_comes_law.specs.Origins.{AreToldBehind, IsOfOrigin, IsReadBehind, OriginReadsCome}
+use Rattle.pp_comes_law.specs.Origins.{IsOfOrigin, IsReadBehind, OriginReadsCome}
 use Rattle.pp_desk.specs.Calls.{Found, read_log}
 use Rattle.pp_desk.specs.declared.desk.Desk.{Desk}
 use Rattle.pp_events_law.proofs.Calls.{its_side}
@@ -16,7 +21,7 @@ use Rattle.pp_events_law.proofs.Touched.{link_of}
 use Rattle.pp_given_law.proofs.CountedEnds.{as_ended}
 use Rattle.pp_given_law.specs.Ends.{AreOfEnd}
 use Rattle.pp_joints_law.proofs.BytesBehind.{origin_bytes_carry}
-use Rattle.pp_joints_law.proofs.CallsBehind.{WasAdded, drop_front, some_same, was_added}
+use Rattle.pp_joints_law.proofs.CallsBehind.{WasAdded, was_added}
 use Rattle.pp_joints_law.proofs.Ends.{origin_ends_carry}
 use Rattle.pp_joints_law.specs.BehindEnds.{BringsNoBytes}
 use Rattle.pp_joints_law.specs.Behind.{CarriesOn, HasFew, MayNote, StandsBefore}
@@ -54,7 +59,7 @@ use Rattle.pp_turn_law.specs.Awaited.{HasComeBehind, awaiting}
 use Rattle.pp_turn_law.specs.Called.{Calls}
 use Rattle.pp_turn_law.specs.Handled.{IsHandledOn, Turns}
 use Rattle.pp_turn_law.specs.Kept.{StandsHandled}
-use Rattle.pp_turn_law.specs.Read.{BroughtNone, ComesBehind, IsReadOn, OriginEndsAreHandled, OriginReadsAreHandled}
+use Rattle.pp_turn_law.specs.Read.{OriginReadsAreHandled}
 use Rattle.pp_turn_law.specs.Waited.{HasWaitedOn}
 use Rattle.pp_world.specs.Connections.{side_of}
 use Rattle.pp_world.specs.Log.{AppendsAll, Log}
@@ -130,6 +135,12 @@ same_conns : (s t : State) → t ≡ regained s → t.conns ≡ s.conns
 unfolding regained
 same_conns s t is = ap (λ (u : State). u.conns) is
 
+-- what is said of the bytes that come
+pub record SaysOfBytes : Type 0 where
+  pub amid : ReadsNoteAmid
+  pub behind : ReadsComeBehind
+  pub counts : CountedAsRead
+
 module _ (leads : OriginReadsCome) (k : ℕ) (life : Life) (budget : ℕ) (log : Log) (w : Wants) (x : Standing) (f : Desk) (all : Log) (faults : ℕ) (y : Turning) (s : State) (off : IsOfOrigin k (awaiting x f all faults)) (short : IsShortLog (log ++ Waits w ∷ [])) (calls : Calls life budget log w (Readable k) x f all faults y s) where
   abbrev terms : List Term
   terms = life.terms budget
@@ -179,21 +190,6 @@ module _ (leads : OriginReadsCome) (k : ℕ) (life : Life) (budget : ℕ) (log :
   receives : Receives (length woken.buffer.items) came.shelf k came.moving.links (both woken) (both y.moving.desk) came.log y.log
   receives = reads.receives has_room
 
-  -- bytes came, or none did
-  pub bytes_or_none : ((bytes : Bytes) × (y.log ≡ Some (all ++ Got k bytes ∷ []))) ⊎ BroughtNone k all y
-  unfolding CameOrNone
-  bytes_or_none = by (came_or_none k receives.found receives.front all)
-    where
-      was : (l : Log) × (Some all ≡ Some l) × (calls.told.log ≡ l ++ read_log k receives.found receives.front l)
-      was = receives.told.was calls.told.log calls.told.told
-
-      now : calls.told.log ≡ all ++ read_log k receives.found receives.front all
-      now = subst (λ (l : Log). calls.told.log ≡ l ++ read_log k receives.found receives.front l) (sym (some_same all was.0 was.1)) was.2
-
-      by : CameOrNone k (read_log k receives.found receives.front all) → ((bytes : Bytes) × (y.log ≡ Some (all ++ Got k bytes ∷ []))) ⊎ BroughtNone k all y
-      by (inl came_so) = inl (came_so.0, calls.told.told ∙ ap (λ (l : Log). Some l) (now ∙ ap (λ (l : Log). all ++ l) came_so.1))
-      by (inr none) = inr (λ bytes is. none bytes (drop_front all (read_log k receives.found receives.front all) (Got k bytes ∷ []) (sym now ∙ some_same calls.told.log (all ++ Got k bytes ∷ []) (sym calls.told.told ∙ is))))
-
   -- over the wait neither the cache nor what is set changes
   same_settings : rested.settings ≡ s.settings
   unfolding rest_with
@@ -202,10 +198,25 @@ module _ (leads : OriginReadsCome) (k : ℕ) (life : Life) (budget : ℕ) (log :
   sized : x.turning.moving.desk.state.cache.size ≡ s.settings.critical → came.moving.desk.state.cache.size ≡ rested.settings.critical
   sized size = ap (λ (d : Desk). d.state.cache.size) it.rests.rest ∙ ap (λ (d : Desk). d.state.cache.size) it.awaits.rest ∙ size ∙ sym (ap (λ (c : Settings). c.critical) same_settings)
 
-  module _ (noted : MayNote came.moving) (size : (bytes : Bytes) → AppendsAll came.log y.log (λ l. Got k bytes ∷ []) → came.moving.desk.state.cache.size ≡ rested.settings.critical) (brings : (desk : Desk) → Wakes k f desk → MayBringBeside k (at_desk desk came) y (event (owing (ReadOf k) k rested))) where
+  named : length x.turning.moving.desk.state.cache.outdated ≤ most_names → length came.moving.desk.state.cache.outdated ≤ most_names
+  named few = subst (λ (names : List Bytes). length names ≤ most_names) (sym (ap (λ (d : Desk). d.state.cache.outdated) it.rests.rest ∙ ap (λ (d : Desk). d.state.cache.outdated) it.awaits.rest)) few
+
+  abbrev owed : State
+  owed = event (owing (ReadOf k) k rested)
+
+  module _ (says : SaysOfBytes) (noted : MayNote came.moving) (size : x.turning.moving.desk.state.cache.size ≡ s.settings.critical) (names : length x.turning.moving.desk.state.cache.outdated ≤ most_names) where
+    -- at each moment what is kept, and what left memory, is the law's
+    brings : (desk : Desk) → Wakes k f desk → MayBringBeside k (at_desk desk came) y owed
+    brings desk wakes = record {
+      rests = λ begins next bytes brought same got straight pieces z u left moment leads_to number shows.
+          let one : NotesThere came.shelf z u =
+          says.amid terms waiting it.stands.number desk.state.name.items came.shelf k came.moving desk begins rested bytes stood wakes same (named names) pieces z u left moment in
+          record { disk = one.kept; forgotten = one.forgotten };
+    }
+
     read : IsReadBehind k came y rested
     read =
-        leads k terms waiting it.stands.number w came y (ending s) off come.stands come.came (record { brings = brings; disk = record { done = stood.carried.disk.done; shows = stood.carried.disk.shows; names = stood.carried.disk.names }; size = size; next = goes_on terms rested waiting come.stands.obeys short }) calls.handles it.bounded it.straight
+        leads k terms waiting it.stands.number w came y (ending s) off come.stands come.came (record { brings = brings; disk = record { done = stood.carried.disk.done; shows = stood.carried.disk.shows; names = stood.carried.disk.names }; size = λ bytes told. sized size; next = goes_on terms rested waiting come.stands.obeys short }) calls.handles it.bounded it.straight
 
     abbrev hs : Log
     hs = read.led.log
@@ -245,67 +256,58 @@ module _ (leads : OriginReadsCome) (k : ℕ) (life : Life) (budget : ℕ) (log :
     shelf_same : y.shelf ≡ x.turning.shelf
     shelf_same = reads.one.shelf
 
-    carries : ComesBehind k hs y.moving read.led.handled.handled → CarriesOn x.turning.shelf y.moving read.led.handled.handled
-    unfolding CameOrNone
-    carries comes = by (subst (λ (l : Log). CameOrNone k l) (sym was.is) (came_or_none k receives.found receives.front was.before))
-      where
-        by : CameOrNone k hs → CarriesOn x.turning.shelf y.moving read.led.handled.handled
-        by (inl bytes) = origin_bytes_carry terms waiting it.stands.number read.number x.turning.shelf k bytes.0 came y rested _ stood its.there fits calls.handles few read.led bytes.1 (comes bytes.0 bytes.1)
-        by (inr none) = origin_ends_carry terms waiting it.stands.number read.number x.turning.shelf k came y rested _ stood its.there come.came.linked calls.told fits calls.handles few noted read.led none
-
-    stands : AreToldBehind k read.number hs y.moving t → ComesBehind k hs y.moving read.led.handled.handled → AreCounted y.moving.desk.state read.led.handled.handled → StandsHandled life budget (log ++ more) read.number y t
-    stands joined comes counts = record {
-      obeys = went.obeys;
-      allows = record { failed = failed; allowed = subst (λ (term : Term). budget ≤ term.faults) (sym went.term) it.stands.allows.allowed };
-      told = told;
-      handled = read.led.handled;
-      ready = read.ready joined;
-      carried = subst (λ (m : KeptMap). IsCarried m y.moving read.led.handled.handled) (sym shelf_same) (carries comes).carried;
-      leave = (carries comes).leaves;
-      supplied = supplied_behind life budget log w (Readable k) x f all faults y s it read.led.handled.handled calls.handles counts;
-    }
-
-    pub read_on : IsReadOn k life budget log w came y rested
-    read_on = record { number = read.number; led = read.led; stands = stands }
-
-  -- ---- where it brings no bytes
-
-  module _ (noted : MayNote came.moving) (none : BroughtNone k all y) where
-    never : (desk : Desk) → Wakes k f desk → MayBringBeside k (at_desk desk came) y (event (owing (ReadOf k) k rested))
-    never desk wakes = record { rests = λ begins next bytes brought same got straight. absurd (none bytes (added_is all (Got k bytes ∷ []) y.log (calls.told.log, calls.told.told) brought.told)) }
-
-    on : IsReadOn k life budget log w came y rested
-    on = read_on noted (λ bytes told. absurd (none bytes (added_is all (Got k bytes ∷ []) y.log (calls.told.log, calls.told.told) told))) never
-
-    no_bytes : (bytes : Bytes) → on.led.log ≡ Got k bytes ∷ [] → ⊥
-    no_bytes bytes is = none bytes (added_is all (Got k bytes ∷ []) y.log (calls.told.log, calls.told.told) (subst (λ (l : Log). AppendsAll (Some all) y.log (λ m. l)) is on.led.told))
-
-    -- what was added is an end, of an origin
-    ended : WasAdded came.log (read_log k receives.found receives.front) on.led.log
-    ended = was_added came.log y.log calls.told.log on.led.log (read_log k receives.found receives.front) calls.told.told on.led.told receives.told
+    -- by what was added: bytes, or an end
+    counted_before : AreCounted came.moving.desk.state rested
+    counted_before = (supplied_before life budget log w (Readable k) x f all faults y s it).counted
 
     peer : HasPeer rested k f.peers (rested_conn (ending s) w its.was)
     peer = linked rested k f.peers rested.conns (rested_conn (ending s) w its.was) its.there stood.stands.desk.turn.steps.shows.conns
 
-    side : side_of k ended.before ≡ Some OfOrigin
-    side = its_side came.log came.moving.top came.moving.links k OfOrigin ended.before come.came.linked (link_of k f.peers came.moving.links peer.peer stood.stands.opened.origins peer.there) ended.told
+    side : side_of k was.before ≡ Some OfOrigin
+    side = its_side came.log came.moving.top came.moving.links k OfOrigin was.before come.came.linked (link_of k f.peers came.moving.links peer.peer stood.stands.opened.origins peer.there) was.told
 
-    an_end : AreOfEnd on.led.log
-    an_end = subst AreOfEnd (sym ended.is) (end_of k receives.found receives.front ended.before side (subst (λ (l : Log). BringsNoBytes k l) ended.is no_bytes))
+    an_end : BringsNoBytes k hs → AreOfEnd hs
+    an_end none = subst AreOfEnd (sym was.is) (end_of k receives.found receives.front was.before side (subst (λ (l : Log). BringsNoBytes k l) was.is none))
 
-    counts : AreCounted y.moving.desk.state on.led.handled.handled
-    counts = as_ended it.stands.number on.number k came y rested calls.told.log stood.stands off fits calls.told.told calls.handles on.led an_end (supplied_before life budget log w (Readable k) x f all faults y s it).counted
+    found : CameOrNone k hs
+    found = subst (λ (l : Log). CameOrNone k l) (sym was.is) (came_or_none k receives.found receives.front was.before)
 
-    pub ends_on : IsHandledOn life budget log w (Readable k) y
-    ends_on = record {
-      added = on.led.log;
-      number = on.number;
-      then = on.led.then;
-      stands = on.stands (λ bytes is. absurd (no_bytes bytes is)) (λ bytes is. absurd (no_bytes bytes is)) counts;
+    -- what is carried, and how much is counted of what is dropped
+    record IsBehind : Type 0 where
+      carries : CarriesOn x.turning.shelf y.moving read.led.handled.handled
+      counts : AreCounted y.moving.desk.state read.led.handled.handled
+
+    behind : CameOrNone k hs → IsBehind
+    unfolding CameOrNone
+    behind (inl bytes) =
+        let through : IsReadAwake k came y rested bytes.0 read.led.handled.handled = read.through bytes.0 bytes.1 in
+        record {
+          carries =
+              origin_bytes_carry terms waiting it.stands.number read.number x.turning.shelf k bytes.0 came y rested _ stood its.there fits calls.handles few read.led bytes.1
+              (says.behind terms waiting it.stands.number read.number k bytes.0 came y rested stood (named names) read.led through);
+          counts = says.counts terms waiting it.stands.number read.number k came y rested bytes.0 come.stands.obeys short come.stands.stands read.led through counted_before;
+        }
+    behind (inr none) = record {
+      carries = origin_ends_carry terms waiting it.stands.number read.number x.turning.shelf k came y rested _ stood its.there come.came.linked calls.told fits calls.handles few noted read.led none;
+      counts = as_ended it.stands.number read.number k came y rested calls.told.log stood.stands off fits calls.told.told calls.handles read.led (an_end none) counted_before;
     }
 
-pub origin_reads_handled : OriginReadsCome → OriginReadsAreHandled
-origin_reads_handled leads k life budget log w x f all faults y s off short calls noted size brings = read_on leads k life budget log w x f all faults y s off short calls noted (λ bytes told. sized leads k life budget log w x f all faults y s off short calls size) brings
+    stands : StandsHandled life budget (log ++ more) read.number y t
+    stands =
+        let at : IsBehind = behind found in
+        record {
+          obeys = went.obeys;
+          allows = record { failed = failed; allowed = subst (λ (term : Term). budget ≤ term.faults) (sym went.term) it.stands.allows.allowed };
+          told = told;
+          handled = read.led.handled;
+          ready = read.ready;
+          carried = subst (λ (m : KeptMap). IsCarried m y.moving read.led.handled.handled) (sym shelf_same) at.carries.carried;
+          leave = at.carries.leaves;
+          supplied = supplied_behind life budget log w (Readable k) x f all faults y s it read.led.handled.handled calls.handles at.counts;
+        }
 
-pub origin_ends_handled : OriginReadsCome → OriginEndsAreHandled
-origin_ends_handled leads k life budget log w x f all faults y s off short calls noted none = ends_on leads k life budget log w x f all faults y s off short calls noted none
+    pub handled_on : IsHandledOn life budget log w (Readable k) y
+    handled_on = record { added = hs; number = read.number; then = t; stands = stands }
+
+pub origin_reads_handled : OriginReadsCome → SaysOfBytes → OriginReadsAreHandled
+origin_reads_handled leads says k life budget log w x f all faults y s off short calls noted size names = handled_on leads k life budget log w x f all faults y s off short calls says noted size names

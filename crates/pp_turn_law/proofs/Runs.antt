@@ -13,7 +13,6 @@ use Rattle.pp_world.specs.Files.{Files}
 use Rattle.pp_world.specs.Log.{Log}
 use Rattle.pp_world.specs.declared.happening.Happening.TheVariants.{Woke}
 use Rattle.pp_turn_law.proofs.EarlyEnds.{early_ends}
-use Rattle.pp_turn_law.specs.Brought.{BytesAreSupplied}
 use Rattle.pp_turn_law.specs.Ended.{EndsLawfully, ends_early}
 use Rattle.pp_turn_law.specs.Headline.{LawfulLogsHaveTheHeadline}
 use Rattle.pp_turn_law.specs.Lives.{IsLawfulToItsEnd, ServedLivesAreLawful, Wakes}
@@ -21,7 +20,7 @@ use Rattle.pp_turn_law.specs.Running.{Means, RunsBesideTheLaw, is_said}
 use Rattle.pp_turn_law.specs.Served.{most_happenings}
 
 module _ (lawful : ServedLivesAreLawful) (laws : LawfulLogsHaveTheHeadline) (words : List (String Global)) (exit : Exit) (x y : Outside) (judges : JudgesWords (map string_bytes words) exit) (ends : EndsAs (map string_bytes words) exit x.log y.log x.faults y.faults) (serves : ServingBy (map string_bytes words) exit (HasServed (map string_bytes words) exit x y)) (breaks : BreaksAs (map string_bytes words) exit x y)
-    (life : Life) (budget : ℕ) (files : Files) (before after : Log) (supplied : BytesAreSupplied life budget) (wakes : Wakes life budget (map string_bytes words) files before x) (told : y.log ≡ Some after) (few : y.faults ≤ budget + life.base) (brief : length after < most_happenings) where
+    (life : Life) (budget : ℕ) (files : Files) (before after : Log) (wakes : Wakes life budget (map string_bytes words) files before x) (told : y.log ≡ Some after) (few : y.faults ≤ budget + life.base) (brief : length after < most_happenings) where
   abbrev front : Log
   front = before ++ Woke files ∷ []
 
@@ -34,7 +33,7 @@ module _ (lawful : ServedLivesAreLawful) (laws : LawfulLogsHaveTheHeadline) (wor
   by_serving : exit ≡ Served → asks_to_serve (map string_bytes words) ≡ true → EndsLawfully (life.terms budget) front y
   by_serving is asks =
       let has : HasServed (map string_bytes words) Served x y = subst (λ (e : Exit). HasServed (map string_bytes words) e x y) is (serves (ap (λ (b : Bool). b && has_served exit) asks ∙ ap has_served is)) in
-      let it : IsLawfulToItsEnd life budget front y = lawful life budget words files before after x y supplied wakes has told few brief in
+      let it : IsLawfulToItsEnd life budget front y = lawful life budget words files before after x y wakes has told few brief in
       record { added = it.added; then = it.then; told = it.told; obeys = it.obeys; over = it.over }
 
   early : ends_early (map string_bytes words) exit ≡ true → EndsLawfully (life.terms budget) front y
@@ -57,4 +56,4 @@ module _ (lawful : ServedLivesAreLawful) (laws : LawfulLogsHaveTheHeadline) (wor
   said_means said = means (all exit refl said)
 
 pub runs_beside : ServedLivesAreLawful → LawfulLogsHaveTheHeadline → (words : List (String Global)) (exit : Exit) (x y : Outside) → JudgesWords (map string_bytes words) exit → EndsAs (map string_bytes words) exit x.log y.log x.faults y.faults → ServingBy (map string_bytes words) exit (HasServed (map string_bytes words) exit x y) → BreaksAs (map string_bytes words) exit x y → RunsBesideTheLaw words exit x y
-runs_beside lawful laws words exit x y judges ends serves breaks life budget files before after supplied wakes said told few brief = said_means lawful laws words exit x y judges ends serves breaks life budget files before after supplied wakes told few brief said
+runs_beside lawful laws words exit x y judges ends serves breaks life budget files before after wakes said told few brief = said_means lawful laws words exit x y judges ends serves breaks life budget files before after wakes told few brief said

@@ -1,11 +1,9 @@
 -- From one wait to the next: all of a turn, beside a log that obeys the law (ours).
 --
--- Where the premises come from: what a turn does is TurnsOn of `pp_proxy`; which events are handled say Handled, Called, Read and Brought. As a life begins
+-- Where the premises come from: what a turn does is TurnsOn of `pp_proxy`; which events are handled say Handled, Called and Read. As a life begins
 -- its first event is handled (Opening), and from there it goes on as here. All turns of a life, one behind the other, are of Turned.
-use Rattle.std.specs.Prelude.{◌≡◌, ◌≤◌, ◌<◌, ◌⊎◌, ◌+◌, ◌++◌, ℕ, [], ◌∷◌, length, vec_capacity, Some, None, ⊤}
+use Rattle.std.specs.Prelude.{◌≡◌, ◌≤◌, ◌<◌, ◌⊎◌, ◌+◌, ◌++◌, ℕ, [], ◌∷◌, length, vec_capacity, Some}
 use Rattle.pp_cache.specs.Bounds.{IsBounded}
-use Rattle.pp_desk.specs.Anything.{anything}
-use Rattle.pp_desk.specs.declared.desk.Desk.{Desk}
 use Rattle.pp_given_law.specs.MayNote.{most_names}
 use Rattle.pp_grown_law.specs.Grown.{HasNothingToKeep}
 use Rattle.pp_law.specs.State.{State}
@@ -14,16 +12,13 @@ use Rattle.pp_obeys.specs.Obeys.{Life}
 use Rattle.pp_proxy.specs.Awaiting.{Standing, TurnsOn}
 use Rattle.pp_proxy.specs.Moving.{Turning}
 use Rattle.pp_proxy.specs.declared.proxy.Turn.TheVariants.{Went}
-use Rattle.pp_state.specs.Ends.{numbers_of, place_of}
-use Rattle.pp_store.specs.Held.{Holds}
 use Rattle.pp_turn_law.specs.Called.{Calls, IsLostOn}
 use Rattle.pp_turn_law.specs.Handled.{IsHandledOn}
 use Rattle.pp_turn_law.specs.Ordered.{StandsOrdered}
-use Rattle.pp_turn_law.specs.Read.{BroughtNone}
 use Rattle.pp_turn_law.specs.Served.{most_happenings}
 use Rattle.pp_turn_law.specs.Straight.{IsStraight}
 use Rattle.pp_turn_law.specs.Waited.{StandsAtWait}
-use Rattle.pp_world.specs.Log.{Log, Told}
+use Rattle.pp_world.specs.Log.{Log}
 use Rattle.pp_world.specs.declared.event.Event.{Event}
 use Rattle.pp_world.specs.declared.event.Event.TheVariants.{Accepted, Broken, Readable, Reached, Stop, Tick, Writable}
 use Rattle.pp_world.specs.declared.event.Wants.{Wants}
@@ -61,21 +56,6 @@ IsTaken life budget log w (Broken k) h = IsHandledOn life budget log w (Broken k
 abbrev pub ItsEventIsTaken : (life : Life) (budget : ℕ) (log : Log) (x y : Standing) (s : State) → TurnsOn Went x y → Type 0
 ItsEventIsTaken life budget log x y s turns = (event : Event) → turns.event ≡ Some event → (all : Log) (faults : ℕ) (h : Turning) → Calls life budget log turns.wants event x turns.rested all faults h s → IsShortLog (log ++ Waits turns.wants ∷ [])
     → h.faults ≤ budget + life.base → IsTaken life budget log turns.wants event h
-
--- it brings no bytes of an origin
-abbrev pub IsPlain : Event → Desk → Log → Turning → Type 0
-IsPlain Stop f all h = ⊤
-IsPlain (Tick seconds) f all h = ⊤
-IsPlain (Accepted c) f all h = ⊤
-IsPlain (Readable id) f all h = place_of id (numbers_of f.state.seats.items) ≡ None → BroughtNone id all h
-IsPlain (Writable id) f all h = ⊤
-IsPlain (Reached k) f all h = ⊤
-IsPlain (Broken k) f all h = ⊤
-
--- each of these is taken; the shelf holds at the wait, as TurnsOn of `pp_proxy` has it
-abbrev pub PlainOnesAreHandled : Type 0
-PlainOnesAreHandled = (life : Life) (budget : ℕ) (log : Log) (x : Standing) (s : State) → StandsOn life budget log x s → Told x.turning.log (Holds anything x.turning.shelf) → (w : Wants) (event : Event) (f : Desk) (all : Log) (faults : ℕ) (h : Turning) → Calls life budget log w event x f all faults h s
-    → IsShortLog (log ++ Waits w ∷ []) → h.faults ≤ budget + life.base → IsPlain event f all h → IsTaken life budget log w event h
 
 -- ---- at the next
 

@@ -1,7 +1,7 @@
 -- What the log behind `run` means, in the words of its readers: the laws of `pp_laws` and of the crates beside it, of this log (RFC 2616, sections 6,
 -- 8.1, 8.1.2.2 and 13.5.4).
 --
--- Where the premises come from: as in Lives; so the reads that bring bytes have no source yet. Each front of such a log is lawful too, wherever a crash cuts it.
+-- Where the premises come from: as in Lives. Each front of such a log is lawful too, wherever a crash cuts it.
 use Rattle.std.specs.Global.{Global}
 use Rattle.std.specs.Prelude.{◌≡◌, ◌≤◌, ◌<◌, ◌+◌, ◌++◌, ℕ, true, List, [], ◌∷◌, length, map, Some, String, string_bytes}
 use Rattle.pp_law.specs.Lawful.{Lawful}
@@ -22,7 +22,6 @@ use Rattle.pp_laws_sent.specs.Whole.{IsOneWhole, seen}
 use Rattle.pp_obeys.specs.Obeys.{Life}
 use Rattle.pp_run.specs.Lives.{HasServed, Outside}
 use Rattle.pp_run.specs.declared.ending.Exit.TheVariants.{Served}
-use Rattle.pp_turn_law.specs.Brought.{BytesAreSupplied}
 use Rattle.pp_turn_law.specs.Lives.{Wakes}
 use Rattle.pp_turn_law.specs.Served.{most_happenings}
 use Rattle.pp_world.specs.Disk.{IsLeftBehind}
@@ -57,9 +56,9 @@ pub record Headline (terms : List Term) (log : Log) : Type 0 where
       → IsOneWhole terms (front ++ happening ∷ []) (said c.number (front ++ happening ∷ [])) c p
   -- what is answered from the cache is fresh, or was checked
   pub rows_are_fresh_or_checked : (front : Log) (n i : ℕ) (d : Decision) → Happens log front (Noted (Taken n i d)) → is_by_row d ≡ true → Asker (come_to_decide (state_after terms front)) n i
-  -- wherever it ends by a crash: whatever is left of the folder has only bytes that were sent, and each extent that was acknowledged
-  pub each_image_is_backed : (front : Log) (image : Files) → IsFrontOf log front → IsLeftBehind (state_after terms front).disk image → IsBacked (state_after terms front).sent image
-  pub acknowledged_is_found : (front : Log) (image : Files) (key : Bytes) (a : Acknowledged) → IsFrontOf log front → IsLeftBehind (state_after terms front).disk image → acknowledged key front ≡ Some a → IsFoundIn image key a
+  -- wherever it ends by a crash, whatever that leaves of the folder has only bytes that were sent, and each extent that was acknowledged
+  pub each_image_is_backed : (front : Log) (image : Files) → IsFrontOf log front → IsLeftBehind front image → IsBacked (state_after terms front).sent image
+  pub acknowledged_is_found : (front : Log) (image : Files) (key : Bytes) (a : Acknowledged) → IsFrontOf log front → IsLeftBehind front image → acknowledged key front ≡ Some a → IsFoundIn image key a
   -- and so has a life that begins then
   pub acknowledged_is_recovered : (front : Log) (image : Files) (key : Bytes) (a : Acknowledged) → Happens log front (Woke image) → acknowledged key front ≡ Some a → HasRow (state_after terms (front ++ Woke image ∷ [])).entries key a
 
@@ -68,5 +67,5 @@ LawfulLogsHaveTheHeadline = (terms : List Term) (log : Log) → Lawful terms log
 
 -- the log behind a life that served, as in Lives
 abbrev pub ServedLivesHaveTheHeadline : Type 0
-ServedLivesHaveTheHeadline = (life : Life) (budget : ℕ) (words : List (String Global)) (files : Files) (before after : Log) (x y : Outside) → BytesAreSupplied life budget → Wakes life budget (map string_bytes words) files before x → HasServed (map string_bytes words) Served x y
+ServedLivesHaveTheHeadline = (life : Life) (budget : ℕ) (words : List (String Global)) (files : Files) (before after : Log) (x y : Outside) → Wakes life budget (map string_bytes words) files before x → HasServed (map string_bytes words) Served x y
     → y.log ≡ Some after → y.faults ≤ budget + life.base → length after < most_happenings → Headline (life.terms budget) after

@@ -1,6 +1,5 @@
 pub mod Again
 pub mod Awaited
-pub mod Brought
 pub mod Called
 pub mod Ended
 pub mod Exits
@@ -11,6 +10,7 @@ pub mod Grown
 pub mod Handled
 pub mod Headline
 pub mod Kept
+pub mod Left
 pub mod Lives
 pub mod Lost
 pub mod Opening

@@ -3,7 +3,7 @@
 --
 -- Where the premises come from: HasServed is what `run` says of its life, of its exit. What it wakes to is of the outside: the log before is told and
 -- obeys the law, the files are what a crash may leave of it (`lives_wake_behind_crashes` of `pp_joints_law`), the numbers that it gives are above
--- those of the log, and its failures are counted. What is still asked of the reads that bring bytes (BytesAreSupplied of Brought) has no source yet.
+-- those of the log, and its failures are counted.
 use Rattle.std.specs.Global.{Global}
 use Rattle.std.specs.Prelude.{◌≡◌, ◌≤◌, ◌<◌, ◌+◌, ◌++◌, ℕ, true, List, [], ◌∷◌, length, map, Some, String, string_bytes}
 use Rattle.pp_law.specs.Lists.{Bytes}
@@ -14,7 +14,6 @@ use Rattle.pp_obeys.specs.Obeys.{Allows, Life, Obeys}
 use Rattle.pp_recover.specs.Image.{HasFewNames}
 use Rattle.pp_run.specs.Lives.{HasServed, Outside}
 use Rattle.pp_run.specs.declared.ending.Exit.TheVariants.{Served}
-use Rattle.pp_turn_law.specs.Brought.{BytesAreSupplied}
 use Rattle.pp_turn_law.specs.Served.{most_happenings}
 use Rattle.pp_world.specs.Connections.{top_of}
 use Rattle.pp_world.specs.Files.{Files}
@@ -52,5 +51,5 @@ pub record IsLawfulToItsEnd (life : Life) (budget : ℕ) (before : Log) (y : Out
 
 -- of a life that served and did not go astray, where the log is told behind it, and the outside failed no more often than the life may have
 abbrev pub ServedLivesAreLawful : Type 0
-ServedLivesAreLawful = (life : Life) (budget : ℕ) (words : List (String Global)) (files : Files) (before after : Log) (x y : Outside) → BytesAreSupplied life budget → Wakes life budget (map string_bytes words) files before x → HasServed (map string_bytes words) Served x y
+ServedLivesAreLawful = (life : Life) (budget : ℕ) (words : List (String Global)) (files : Files) (before after : Log) (x y : Outside) → Wakes life budget (map string_bytes words) files before x → HasServed (map string_bytes words) Served x y
     → y.log ≡ Some after → y.faults ≤ budget + life.base → length after < most_happenings → IsLawfulToItsEnd life budget (before ++ Woke files ∷ []) y

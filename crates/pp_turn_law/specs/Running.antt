@@ -1,6 +1,6 @@
 -- `run` beside the law: of a life whose words, files and log are as the law has them, what its exit says of the log behind it (ours).
 --
--- Where the premises come from: as in Lives, where Wakes is of the outside, and BytesAreSupplied, of the reads that bring bytes, has no source yet.
+-- Where the premises come from: as in Lives, where Wakes is of the outside.
 --
 -- Not said: of a life that went astray.
 use Rattle.std.specs.Global.{Global}
@@ -10,7 +10,6 @@ use Rattle.pp_obeys.specs.Obeys.{Life}
 use Rattle.pp_run.specs.Lives.{Outside}
 use Rattle.pp_run.specs.declared.ending.Exit.{Exit}
 use Rattle.pp_run.specs.declared.ending.Exit.TheVariants.{NoConfig, NoDisk, NoListener, NoMemory, Served, ServedAstray, Usage}
-use Rattle.pp_turn_law.specs.Brought.{BytesAreSupplied}
 use Rattle.pp_turn_law.specs.Ended.{EndsLawfully}
 use Rattle.pp_turn_law.specs.Headline.{Headline}
 use Rattle.pp_turn_law.specs.Lives.{Wakes}
@@ -35,5 +34,5 @@ pub record Means (terms : List Term) (before after : Log) (y : Outside) : Type 0
   pub headline : Headline terms after
 
 abbrev pub RunsBesideTheLaw : List (String Global) → Exit → Outside → Outside → Type 0
-RunsBesideTheLaw words exit x y = (life : Life) (budget : ℕ) (files : Files) (before after : Log) → BytesAreSupplied life budget → Wakes life budget (map string_bytes words) files before x → is_said exit ≡ true → y.log ≡ Some after → y.faults ≤ budget + life.base → length after < most_happenings
+RunsBesideTheLaw words exit x y = (life : Life) (budget : ℕ) (files : Files) (before after : Log) → Wakes life budget (map string_bytes words) files before x → is_said exit ≡ true → y.log ≡ Some after → y.faults ≤ budget + life.base → length after < most_happenings
     → Means (life.terms budget) (before ++ Woke files ∷ []) after y

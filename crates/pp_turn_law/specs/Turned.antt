@@ -2,8 +2,7 @@
 -- made as were set; the log obeys the law, and may end there (ours).
 --
 -- Where the premises come from: what the turns do is TurnsUpTo of `pp_run`; what the first begins with as in First, and with any other as in Going.
--- That each event is taken (TakesAll) follows from what is still asked of the reads that bring bytes (BytesAreSupplied of Brought), which has no
--- source yet.
+-- That each event is taken (TakesAll) is so of each life (EventsAreTaken).
 use Rattle.std.specs.Prelude.{◌≡◌, ◌≤◌, ◌<◌, ◌+◌, ◌++◌, ℕ, true, length, Some}
 use Rattle.pp_conf.specs.declared.conf.Conf.{Conf}
 use Rattle.pp_joints_law.specs.Opened.{BeginsWith}
@@ -15,7 +14,6 @@ use Rattle.pp_proxy.specs.declared.proxy.Proxy.{Proxy}
 use Rattle.pp_proxy.specs.declared.proxy.Turn.TheVariants.{Went}
 use Rattle.pp_run.specs.Serving.{TurnsUpTo}
 use Rattle.pp_store.specs.Kept.{KeptMap}
-use Rattle.pp_turn_law.specs.Brought.{BytesAreSupplied}
 use Rattle.pp_turn_law.specs.Going.{ItsEventIsTaken, StandsOn}
 use Rattle.pp_turn_law.specs.Opening.{opened_at}
 use Rattle.pp_turn_law.specs.Served.{most_happenings}
@@ -27,9 +25,9 @@ use Rattle.pp_world.specs.Log.{Log}
 abbrev pub TakesAll : Life → ℕ → Type 0
 TakesAll life budget = (log after : Log) (x y : Standing) (s : State) → StandsOn life budget log x s → (turns : TurnsOn Went x y) → IsStraight y.turning → y.turning.log ≡ Some after → y.turning.faults ≤ budget + life.base → length after < most_happenings → ItsEventIsTaken life budget log x y s turns
 
--- so they are, where that is there of each read that brings bytes: of each other event `PlainOnesAreHandled` of Going has it
+-- so they are
 abbrev pub EventsAreTaken : Type 0
-EventsAreTaken = (life : Life) (budget : ℕ) → BytesAreSupplied life budget → TakesAll life budget
+EventsAreTaken = (life : Life) (budget : ℕ) → TakesAll life budget
 
 -- the log goes on so, from this one, and may end
 pub record HasGoneOn (life : Life) (budget : ℕ) (log : Log) (y : Standing) : Type 0 where
@@ -47,5 +45,5 @@ TurnsGoOnUpTo = (life : Life) (budget most : ℕ) (log after : Log) (x y : Stand
 
 -- and from where a life listens, of a proxy whose name is as short as by its type, and whose cache may have as many chunks as are set
 abbrev pub LivesGoOn : Type 0
-LivesGoOn = (life : Life) (budget most : ℕ) (log after : Log) (conf : Conf) (p : Proxy) (shelf : KeptMap) (top faults : ℕ) (y : Standing) (s : State) → BytesAreSupplied life budget → BeginsWith (life.terms budget) log conf p shelf top s → length p.desk.state.name.items ≤ 64 → p.desk.state.cache.size ≡ s.settings.critical
+LivesGoOn = (life : Life) (budget most : ℕ) (log after : Log) (conf : Conf) (p : Proxy) (shelf : KeptMap) (top faults : ℕ) (y : Standing) (s : State) → BeginsWith (life.terms budget) log conf p shelf top s → length p.desk.state.name.items ≤ 64 → p.desk.state.cache.size ≡ s.settings.critical
     → Allows life budget faults s → TurnsUpTo most (opened_at p shelf top log faults) y → IsStraight y.turning → y.turning.log ≡ Some after → y.turning.faults ≤ budget + life.base → length after < most_happenings → HasGoneOn life budget log y

@@ -1,5 +1,5 @@
 -- Whence a life wakes (Wakes of Lives): the first to files none of which is an entry; each later one behind a log that obeys the law, to what a crash
--- may leave of the law's disk, which is the log's (ours).
+-- may leave of it (ours): so it may of the law's disk (Left), which is what the law asks for.
 use Rattle.std.specs.Prelude.{◌≡◌, ◌≤◌, ◌++◌, ℕ, true, List, [], ◌∷◌, map, Some}
 use Rattle.pp_law.specs.Lists.{Bytes}
 use Rattle.pp_law.specs.Opening.{is_first_image, term_in}
@@ -23,5 +23,5 @@ FirstLivesWake = (words : List Bytes) (budget : ℕ) (files : Files) (x : Outsid
 
 -- behind the log of the lives before it, or any front of that, where a crash cut it
 abbrev pub LaterLivesWake : Type 0
-LaterLivesWake = (life : Life) (budget : ℕ) (words : List Bytes) (files : Files) (before : Log) (x : Outside) (s : State) → Obeys (life.terms budget) s before → (s.phase ≡ Before → ⊥) → is_rising (map (λ file. file.0) files) ≡ true → IsLeftBehind s.disk files
+LaterLivesWake = (life : Life) (budget : ℕ) (words : List Bytes) (files : Files) (before : Log) (x : Outside) (s : State) → Obeys (life.terms budget) s before → (s.phase ≡ Before → ⊥) → is_rising (map (λ file. file.0) files) ≡ true → IsLeftBehind before files
     → (term_in s.terms).words ≡ words → budget ≤ (term_in s.terms).faults → x.log ≡ Some (before ++ Woke files ∷ []) → top_of before ≤ x.top → life.base ≤ x.faults → Wakes life budget words files before x

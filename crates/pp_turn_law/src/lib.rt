@@ -17,14 +17,14 @@
 //! `specs/First.antt` has all of the first turn, from where a life listens to the second wait, with its event and how often the outside failed before it
 //! of `specs/Opening.antt`; `specs/Stopping.antt` all of the last: from its wait, over Stop (`specs/Stopped.antt`), to where the log may end.
 //! `specs/Exits.antt`: each turn has its event, and where it ended the log may end. `specs/Turned.antt` has all turns, one behind the other, from where
-//! a life listens to where the log may end; so each event is taken, where what `specs/Brought.antt` still asks of the reads that bring bytes is there.
+//! a life listens to where the log may end: each event of each is taken.
 //!
-//! A life as one, from the log before it: `specs/Lives.antt`, where it serves, up to where the log may end, and `specs/Waking.antt`, whence it wakes;
-//! `specs/Ended.antt`, where it does not come to serve. `specs/Headline.antt` has what the laws say of the log behind it, and `specs/Running.antt` all of
-//! that as the clause of a function that runs the program.
+//! A life as one, from the log before it: `specs/Lives.antt`, where it serves, up to where the log may end, and `specs/Waking.antt`, whence it wakes:
+//! to what a crash leaves of that log, and so of the law's disk (`specs/Left.antt`); `specs/Ended.antt`, where it does not come to serve.
+//! `specs/Headline.antt` has what the laws say of the log behind it, and `specs/Running.antt` all of that as the clause of a function that runs the
+//! program.
 //!
-//! Not said: what the bytes of a read of an origin rest on, and what is carried behind them. That is a premise of all turns, and of whole lives:
-//! `BytesAreSupplied` of `specs/Brought.antt`, a field for each of them.
+//! Not said: anything of a life that went astray.
 //!
 //! To the layer above: each is the clause of a function that does nothing, but for `run_beside_the_law`. It is one part of the proof that the
 //! program obeys the law.
@@ -53,6 +53,7 @@ mod stopping; // at Stop
 mod straight; // the order of clients, and where a life did not go astray
 mod turned; // all turns of a life
 mod waiting; // to an event
+mod waking; // what a crash leaves
 mod ways; // out of a wait, and out of a life
 
 pub use again::served_ones_wait_again;
@@ -78,4 +79,5 @@ pub use stopping::stopped_ones_end;
 pub use straight::{astray_ones_stay_astray, clients_stay_ordered, straight_ones_were_straight};
 pub use turned::{events_are_taken, lives_go_on};
 pub use waiting::turns_wait;
+pub use waking::crashes_leave_the_disk;
 pub use ways::turns_have_events;
