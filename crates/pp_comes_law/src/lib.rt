@@ -2,7 +2,7 @@
 //!
 //! `specs/Moments.antt` says what each moment of a read of an origin rests on beside the law, which gives the rest of it (RestsOn of `pp_reads_law`).
 //!
-//! Not said: where what is still asked of those moments comes from; it stands there at each.
+//! Not said: what is asked of those moments beside; `pp_joints_law` has it, from the wait on (`specs/ReadsCome.antt` there).
 //!
 //! To the layer above: each is the clause of a function that does nothing. It is one part of the proof that the program obeys the law.
 //!

@@ -5,8 +5,8 @@
 //! permitted, and its own note is permitted behind that; both lead to one state of the law, which the turn shows once `take` of `pp_take` is
 //! done and attempts count anew; and there the turn stands as before, for the next one. `Cuts` joins one cut in the same way.
 //!
-//! Not said: what a decision rests on beside what stands, as `RestsOn` lists it, each with its source or that there is
-//! none yet; a turn in which memory is refused for a row; all decisions of a turn, one behind the other; and what follows them.
+//! Not said: what a decision rests on beside what stands, as `RestsOn` lists it, each with its source; a turn in which memory is refused
+//! for a row; all decisions of a turn, one behind the other; and what follows them.
 //!
 //! To the layer above: each is the clause of a function that does nothing. It is one part of the proof that the program obeys the law. The
 //! words of the program stand in `pp_due`, `pp_steps`, `pp_take` and `pp_desk`, which say of each function which it computes.

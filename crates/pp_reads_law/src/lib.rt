@@ -17,8 +17,8 @@
 //! not go astray by it. `Lives` has that lives are only given, and who is followed stays; and `Told`, with `Heads`, that what exchanges of clients
 //! joined is told by its number.
 //!
-//! Not said: what they joined behind the head to the ask of a follower; and which replies end behind a read, which is in
-//! `pp_endings_law`. Nor is anything said of a turn in which memory was refused for a row.
+//! Not said: which replies end behind a read, which is in `pp_endings_law`. Nor is anything said of a turn in which memory was refused
+//! for a row.
 //!
 //! To the layer above: each is the clause of a function that does nothing. It is one part of the proof that the program obeys the law. The
 //! words of the program stand in `pp_origins`, `pp_due` and `pp_proxy`, which say of each function which it computes.
