@@ -30,7 +30,7 @@ CLIENTS = 36
 ORIGINS = 12
 PATHS = 2
 PATIENCE = 40.0  # within which everything that is asked is answered
-CASE_SECONDS = 45
+CASE_SECONDS = 36
 PAGES = {400, 411, 416, 431, 500, 502, 504}
 FIELDS = [[]] * 4 + [[b"Cache-Control: no-cache"]] * 3 + [[b"Cache-Control: no-store"], [b"Cache-Control: only-if-cached"]]
 

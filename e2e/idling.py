@@ -1,14 +1,17 @@
 """Who does nothing for long, by a clock that leaps."""
 
 import select
+import socket
 import struct
 import time
 
+import naming
 from harness import case, equal, holds
-from origin import Answer, plain, response
+from network import silence_at
+from origin import Answer, lines, noise, plain, response
 from played import Played
 from rules import rule
-from shims import between, shared
+from shims import between, between_each, shared
 from world import BAD_GATEWAY, Client, passed, reply
 
 
@@ -37,9 +40,12 @@ class Clock:
         return self._leapt - before + time.monotonic() - start
 
 
+SHIM = ("clock.c", "CLOCK_FILE", Clock)
+
+
 def leaping(world):
     """The program once more, and its clock."""
-    return between(world, "clock.c", "CLOCK_FILE", Clock)
+    return between(world, *SHIM)
 
 
 def has_news(client):
@@ -54,6 +60,27 @@ def an_idle_client_is_closed_after_120_seconds(world):
         seconds = clock.leap_until(lambda: has_news(client))
         client.expect_last(b"", "an end, and nothing before")
         holds(seconds >= 119, f"an end after 120 seconds in place of {seconds:.0f}")
+
+
+@case
+def a_client_that_takes_nothing_of_its_reply_has_900_seconds(world):
+    with leaping(world) as (proxy, clock), Client(port=proxy.port) as slow, Client(port=proxy.port) as gone:
+        # more than the system holds for a connection
+        body = noise(32_000_000)
+        proxy.origin.on("/long", Answer(response(body, b"X: y")))
+        whole = reply(body, b"x: y")
+        for client in (slow, gone):
+            client.socket.setsockopt(socket.SOL_SOCKET, socket.SO_RCVBUF, 65_536)
+            client.say(proxy.request("/long"))
+            client.expect(whole[:100], "the front of the reply")
+        for _ in range(8):
+            clock.leap(100)
+        slow.expect(whole[100:], "all of the rest, behind 800 seconds")
+        for _ in range(2):
+            clock.leap(100)
+        rest = gone.hear_all()
+        holds(len(rest) < len(whole) - 100, "an end before the last byte, behind 1,000 seconds")
+        equal(rest, whole[100 : 100 + len(rest)], "what was said before the end")
 
 
 @case
@@ -103,3 +130,16 @@ def a_computer_that_was_asleep_for_an_hour_loses_no_request(world):
         holds(origin.take_if_any(0) is None, "one ask")
         ask.say(response(b"awake"))
         client.expect(reply(b"awake"))
+
+
+@case
+@rule("other-addresses")
+def an_address_that_is_silent_for_60_seconds_is_left_for_another(world):
+    with between_each(world, [SHIM, naming.SHIM]) as (proxy, [clock, names]):
+        proxy.origin.on("/a", Answer(plain(b"hello")))
+        names.give("silent.test", "127.0.0.2", "127.0.0.1")
+        with silence_at("127.0.0.2", proxy.origin.port), Client(port=proxy.port) as client:
+            client.say(lines(f"GET http://silent.test:{proxy.origin.port}/a HTTP/1.1".encode()))
+            seconds = clock.leap_until(lambda: has_news(client))
+            client.expect(passed(b"hello"))
+            holds(seconds >= 59, f"60 seconds of patience in place of {seconds:.0f}")

@@ -30,6 +30,26 @@ def free_port():
             return port
 
 
+def has_ipv6():
+    """Whether this machine has ::1."""
+    with contextlib.suppress(OSError), socket.socket(socket.AF_INET6) as any_socket:
+        any_socket.bind(("::1", 0))
+        return True
+    return False
+
+
+@contextlib.contextmanager
+def silence_at(address, port):
+    """Who connects there has no answer, and is not refused: no more may wait for the listener than wait, and it takes nobody."""
+    with contextlib.ExitStack() as stack:
+        stack.enter_context(socket.create_server((address, port), backlog=0))
+        for _ in range(4):
+            waiting = stack.enter_context(socket.socket())
+            waiting.setblocking(False)
+            waiting.connect_ex((address, port))
+        yield
+
+
 def wait_until_it_listens(process, port, seconds=START_SECONDS):
     """Waits for a program to listen on this port. Answers why it does not, or nothing."""
     deadline = time.monotonic() + seconds

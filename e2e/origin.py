@@ -124,16 +124,17 @@ class Ask:
 
 
 class Origin:
-    """An origin on 127.0.0.1, on a port of its own where none is given."""
+    """An origin on 127.0.0.1 or another address, on a port of its own where none is given."""
 
-    def __init__(self, port=0):
+    def __init__(self, port=0, address="127.0.0.1"):
         self.answers = {}
         self.asked = []
         self.connections = 0
         self.most_open = 0
         self._open = set()
         self._lock = threading.Lock()
-        self._listener = socket.create_server(("127.0.0.1", port), backlog=512)
+        family = socket.AF_INET6 if ":" in address else socket.AF_INET
+        self._listener = socket.create_server((address, port), family=family, backlog=512)
         self.port = self._listener.getsockname()[1]
         threading.Thread(target=self._accept, daemon=True).start()
 

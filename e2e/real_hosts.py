@@ -4,8 +4,10 @@ import contextlib
 import time
 
 from flows import Flow, flow_from
-from harness import case, equal, holds
-from origin import Answer, lines, noise, part, response
+from harness import Skipped, case, equal, holds
+from naming import named
+from network import free_port, has_ipv6
+from origin import Answer, Origin, lines, noise, part, response
 from played import Played
 from rules import rule
 from world import BAD_REQUEST, LAST_BAD_GATEWAY, PATIENCE, Client, reply
@@ -144,6 +146,69 @@ def four_clients_that_do_not_read_hold_up_nobody_else(world):
         time.sleep(0.5)
         proxy.origin.on("/small", Answer(response(b"small")))
         told_soon(proxy, proxy, "/small", reply(b"small", connection=b"close"))
+
+
+# a name has many addresses (RFC 1123, 2.3)
+HERE = "127.0.0.1"
+DEAD = ["127.0.0.2", "127.0.0.3", "127.0.0.4"]  # nobody listens there
+UNDIALLED = "255.255.255.255"  # no connection goes there
+ONCE = Answer(response(b"hello", b"Cache-Control: no-store", b"Connection: close"), then="end")
+TOLD_ONCE = reply(b"hello", b"cache-control: no-store", connection=b"close")
+
+
+def told_at(proxy, name, port):
+    """What a new client is told of a page there, for which the origin is dialled anew."""
+    with Client(port=proxy.port) as client:
+        client.say(lines(f"GET http://{name}:{port}/once HTTP/1.1".encode(), b"Connection: close"))
+        return client.hear_all()
+
+
+@case
+@rule("other-addresses")
+def a_name_is_reached_at_the_address_that_answers(world):
+    with named(world) as (proxy, names):
+        proxy.origin.on("/once", ONCE)
+        for number, before in enumerate([DEAD[:1], DEAD[:2], [UNDIALLED], [UNDIALLED, DEAD[0]]]):
+            names.give(f"n{number}.test", *before, HERE)
+            equal(told_at(proxy, f"n{number}.test", proxy.origin.port), TOLD_ONCE, f"what is told behind {before}")
+
+
+@case
+@rule("other-addresses")
+def localhost_is_reached_where_its_server_listens_on_ipv6_alone(world):
+    if not has_ipv6():
+        raise Skipped("IPv6")
+    with named(world) as (proxy, names), contextlib.closing(Origin(free_port(), "::1")) as origin:
+        origin.on("/once", ONCE)
+        for addresses in [(HERE, "::1"), ("::1", HERE)]:
+            names.give("localhost", *addresses)
+            equal(told_at(proxy, "localhost", origin.port), TOLD_ONCE, "what is told")
+
+
+@case
+@rule("other-addresses")
+def an_address_that_answers_is_dialled_again_and_others_are_not(world):
+    with named(world) as (proxy, names):
+        proxy.origin.on("/once", ONCE)
+        names.give("many.test", *DEAD, HERE)
+        equal(told_at(proxy, "many.test", proxy.origin.port), LAST_BAD_GATEWAY, "what is told behind three")
+        for seconds in [0, 0, 6]:  # an answer of the system is kept for 5
+            time.sleep(seconds)
+            equal(told_at(proxy, "many.test", proxy.origin.port), TOLD_ONCE, f"what is told {seconds} seconds later")
+            names.give("many.test", *reversed(DEAD), HERE)
+
+
+@case
+@rule("other-addresses")
+def each_port_of_a_name_has_its_own_address(world):
+    with named(world) as (proxy, names), contextlib.closing(Origin(free_port(), DEAD[0])) as other:
+        names.give("ports.test", HERE, DEAD[0])
+        for origin in [proxy.origin, other]:
+            origin.on("/once", ONCE)
+        for port in [proxy.origin.port, other.port] * 2:
+            equal(told_at(proxy, "ports.test", port), TOLD_ONCE, f"what is told of port {port}")
+        for origin in [proxy.origin, other]:
+            equal(len(origin.asked), 2, "asks of each port")
 
 
 # ---- no client gets another's

@@ -4,7 +4,7 @@ import email.utils
 import time
 
 from harness import case, equal, holds
-from origin import Answer, lines, part, response
+from origin import Answer, lines, noise, part, response
 from rules import rule
 from world import LAST_BAD_GATEWAY, Client
 
@@ -194,6 +194,78 @@ def a_coding_is_told_to_nobody_who_did_not_ask_for_it(world):
     equal(body_told(world, "/coded", b"Accept-Encoding: gzip, deflate"), b"packed", "the body in the coding")
     equal(body_told(world, "/coded"), b"plain", "the body without")
     equal(body_told(world, "/coded", b"Accept-Encoding: gzip;q=0.5"), b"plain", "the body that is kept")
+
+
+@case
+@rule("content-coding")
+def what_is_missing_is_asked_for_without_a_wish_for_a_coding(world):
+    # RFC 9110, 12.5.3: an origin that codes as it sends drops the range then, and weakens the tag
+    body = b"all" * 4_000
+
+    def answer(ask):
+        if ask.field(b"accept-encoding"):
+            return Answer(kept(b"packed", b"Content-Encoding: gzip", tag=b'W/"x"'))
+        return Answer(part(body, ask.field(b"range"), b"Date: " + date(), b'ETag: "x"', b"Cache-Control: max-age=1000"))
+
+    world.origin.on("/packs", answer)
+    equal(body_told(world, "/packs", b"Range: bytes=0-4095"), body[:4_096], "the part that is known")
+    equal(body_told(world, "/packs", b"Accept-Encoding: gzip"), body, "all of it, for a client that takes codings")
+    equal([ask.field(b"range") for ask in asks(world, "/packs")], [b"bytes=0-4095", b"bytes=4096-11999"], "the ranges that are asked for")
+
+
+@case
+@rule("content-coding")
+def the_rest_of_an_archive_is_for_whoever_wants_it(world):
+    # its coding is its own: nobody asked for one, neither for the front nor for the rest
+    body = b"all" * 4_000
+    fields = [b'ETag: "x"', b"Content-Encoding: gzip", b"Cache-Control: max-age=1000"]
+    world.origin.on("/archive", lambda ask: Answer(part(body, ask.field(b"range"), b"Date: " + date(), *fields)))
+    equal(body_told(world, "/archive", b"Range: bytes=0-4095"), body[:4_096], "the part that is known")
+    equal(body_told(world, "/archive", b"Accept-Encoding: gzip"), body, "all of it, for a client that takes codings")
+    equal([ask.field(b"range") for ask in asks(world, "/archive")], [b"bytes=0-4095", b"bytes=4096-11999"], "the ranges that are asked for")
+
+
+@case
+@rule("resumed")
+def a_download_is_resumed_where_nothing_is_known(world):
+    # RFC 9110, 13.1.5: only the origin can say whether a date or a weak tag holds
+    body, since = noise(100_000), b"Sun, 06 Nov 1994 08:49:37 GMT"
+
+    def answer(ask):
+        fields = [b"Date: " + date(), b'ETag: "x"', b"Last-Modified: " + since]
+        if ask.field(b"if-range") in [since, b'W/"x"']:
+            return Answer(part(body, ask.field(b"range"), *fields))
+        return Answer(response(body, *fields))
+
+    world.origin.on("/resumed", answer)
+    for validator in [since, b'W/"x"']:
+        head, rest = told(world, "/resumed", b"Range: bytes=90000-", b"If-Range: " + validator)
+        equal((head.split(b"\r\n")[0], rest), (b"HTTP/1.1 206 Partial Content", body[90_000:]), f"the rest by {validator!r}")
+    # a strong tag is judged here, once the body is known
+    head, rest = told(world, "/resumed", b"Range: bytes=90000-", b'If-Range: "x"')
+    equal((head.split(b"\r\n")[0], rest), (b"HTTP/1.1 206 Partial Content", body[90_000:]), "the rest by a strong tag")
+    equal([ask.field(b"range") for ask in asks(world, "/resumed")], [b"bytes=90000-", b"bytes=90000-", None], "the ranges that are asked for")
+
+
+@case
+@rule("one-message")
+def a_checksum_of_one_content_is_not_said_of_another(world):
+    # RFC 2616, 14.15; RFC 9530, 2: that of a whole is not that of a part, nor the other way round
+    body = b"all" * 4_000
+    fields = [b'ETag: "x"', b"Cache-Control: max-age=1000", b"Content-MD5: cQ==", b"Content-Digest: md5=:cQ==:", b"Repr-Digest: md5=:cQ==:"]
+
+    def answer(ask):
+        own = [b"Date: " + date(), *fields]
+        return Answer(part(body, ask.field(b"range"), *own) if ask.field(b"range") else response(body, *own))
+
+    front, all_of_it = ([b"Range: bytes=0-4095"], body[:4_096]), ([], body)
+    for path, in_order in [("/summed/whole", [all_of_it, front]), ("/summed/part", [front, all_of_it])]:
+        world.origin.on(path, answer)
+        for asked, wanted in in_order:
+            head, text = told(world, path, *asked)
+            equal(text, wanted, f"what {path} brings for {asked!r}")
+            names = [line.partition(b":")[0].lower() for line in head.split(b"\r\n")]
+            equal([name for name in names if name in [b"content-md5", b"content-digest", b"repr-digest"]], [b"repr-digest"], f"checksums of {path} for {asked!r}")
 
 
 @case

@@ -22,10 +22,19 @@ def shared(path, length):
 def between(world, shim, variable, kind, *words):
     """The program once more, with these words and behind this C file, and what tells it: of this kind, made over the file that the
     variable names."""
+    with between_each(world, [(shim, variable, kind)], *words) as (proxy, [teller]):
+        yield proxy, teller
+
+
+@contextlib.contextmanager
+def between_each(world, shims, *words):
+    """The same behind several C files, each with its variable and its kind."""
     need("cc")
     with tempfile.TemporaryDirectory() as folder:
-        library, file = f"{folder}/shim.so", pathlib.Path(folder, "told")
-        equal(ran(["cc", "-shared", "-fPIC", "-o", library, HERE / shim]).returncode, 0, "cc's status")
-        teller = kind(file)
-        with world.anew(*words, environment=environment(LD_PRELOAD=library, **{variable: str(file)})) as proxy:
-            yield proxy, teller
+        libraries = [f"{folder}/{shim}.so" for shim, _variable, _kind in shims]
+        for library, (shim, _variable, _kind) in zip(libraries, shims):
+            equal(ran(["cc", "-shared", "-fPIC", "-o", library, HERE / shim]).returncode, 0, "cc's status")
+        files = {variable: str(pathlib.Path(folder, variable)) for _shim, variable, _kind in shims}
+        tellers = [kind(pathlib.Path(files[variable])) for _shim, variable, kind in shims]
+        with world.anew(*words, environment=environment(LD_PRELOAD=" ".join(libraries), **files)) as proxy:
+            yield proxy, tellers

@@ -1,6 +1,6 @@
 //! A forward proxy for HTTP/1.1.
 //!
-//! It listens on 127.0.0.1. What its words mean, and what it prints where it ends, is for `pp_run`;
+//! What its words mean, where it listens, and what it prints where it ends, is for `pp_run`;
 //! what it does with a client is for `pp_proxy`, over the real world of `pp_net`.
 #![tactic(auto)]
 

@@ -42,13 +42,16 @@ unfolding pp_head_on_literals pp_target_on_literals
 an_ask_has_the_lines_of_its_kind = refl
 
 -- the first of two clients that ask for parts of one body, and the second once the row is known; the rest of a body whose origin ended
--- early; a check, a fetch, and the request as it came
+-- early; a check, a fetch, codings with a hole and with other asks (RFC 9110, section 12.5.3), and the request as it came
 what_the_client_asks_of_its_copy_is_left_out : Rows asked (
     ((Range 0 (Some 4095), codes "GET http://h/b HTTP/1.1\r\nHost: h\r\nRange: bytes=0-4095\r\n\r\n"), Some (codes "GET /b HTTP/1.1\r\nhost: h\r\nrange: bytes=0-4095\r\nvia: 1.1 polipo\r\n\r\n"))
     ∷ ((Hole 8192 12287 (tag (codes "\"x\"")), codes "GET http://h/b HTTP/1.1\r\nHost: h\r\nRange: bytes=8192-12287\r\n\r\n"), Some (codes "GET /b HTTP/1.1\r\nhost: h\r\nrange: bytes=8192-12287\r\nif-range: \"x\"\r\nvia: 1.1 polipo\r\n\r\n"))
     ∷ ((Hole 7 9 (tag (codes "\"x\"")), codes "GET http://h/a HTTP/1.1\r\nHost: h\r\n\r\n"), Some (codes "GET /a HTTP/1.1\r\nhost: h\r\nrange: bytes=7-9\r\nif-range: \"x\"\r\nvia: 1.1 polipo\r\n\r\n"))
     ∷ ((Check (tag (codes "\"x\"")), codes "GET http://h/a HTTP/1.1\r\nHost: h\r\nIf-None-Match: \"y\"\r\nIf-Modified-Since: Sat, 29 Oct 1994 19:43:31 GMT\r\n\r\n"), Some (codes "GET /a HTTP/1.1\r\nhost: h\r\nif-none-match: \"x\"\r\nvia: 1.1 polipo\r\n\r\n"))
     ∷ ((Whole, codes "GET http://h/d HTTP/1.1\r\nHost: h\r\nRange: bytes=5000-5999\r\nIf-Range: \"x\"\r\n\r\n"), Some (codes "GET /d HTTP/1.1\r\nhost: h\r\nvia: 1.1 polipo\r\n\r\n"))
+    ∷ ((Hole 4096 8191 (tag (codes "\"x\"")), codes "GET http://h/b HTTP/1.1\r\nHost: h\r\nAccept-Encoding: gzip\r\nAccept: a\r\nACCEPT-ENCODING: br\r\n\r\n"), Some (codes "GET /b HTTP/1.1\r\nhost: h\r\naccept: a\r\nrange: bytes=4096-8191\r\nif-range: \"x\"\r\nvia: 1.1 polipo\r\n\r\n"))
+    ∷ ((Range 4096 (Some 5999), codes "GET http://h/d HTTP/1.1\r\nHost: h\r\nRange: bytes=5000-5999\r\nAccept-Encoding: gzip\r\n\r\n"), Some (codes "GET /d HTTP/1.1\r\nhost: h\r\naccept-encoding: gzip\r\nrange: bytes=4096-5999\r\nvia: 1.1 polipo\r\n\r\n"))
+    ∷ ((Check (tag (codes "\"x\"")), codes "GET http://h/a HTTP/1.1\r\nHost: h\r\nAccept-Encoding: gzip\r\n\r\n"), Some (codes "GET /a HTTP/1.1\r\nhost: h\r\naccept-encoding: gzip\r\nif-none-match: \"x\"\r\nvia: 1.1 polipo\r\n\r\n"))
     ∷ ((Pass, codes "GET http://h/d HTTP/1.1\r\nHost: h\r\nRange: bytes=5000-5999\r\n\r\n"), Some (codes "GET /d HTTP/1.1\r\nhost: h\r\nrange: bytes=5000-5999\r\nvia: 1.1 polipo\r\n\r\n"))
     ∷ [])
 unfolding pp_head_on_literals pp_target_on_literals

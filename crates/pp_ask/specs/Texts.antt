@@ -58,10 +58,22 @@ is_conditional field =
     (is_named (codes "range") field || is_named (codes "if-range") field)
     || is_named (codes "if-none-match") field || is_named (codes "if-modified-since") field
 
+abbrev pub is_of_hole : AskKind → Bool
+is_of_hole Whole = false
+is_of_hole (Range first last) = false
+is_of_hole (Hole first last tag) = true
+is_of_hole (Check tag) = false
+is_of_hole Pass = false
+
+-- "If no Accept-Encoding header field is in the request, any content coding is considered acceptable by the user agent"
+-- (RFC 9110, section 12.5.3); ours: what is known has its coding, and an origin that codes as it sends would give none of its bytes
+abbrev pub is_left_out : AskKind → Field → Bool
+is_left_out kind field =
+    (not (is_passed kind) && is_conditional field) || (is_of_hole kind && is_named (codes "accept-encoding") field)
+
 -- the fields of the client that go on in an ask of this kind
 abbrev pub goes_on : AskKind → List Field → Field → Bool
-goes_on kind fields field =
-    not (is_hop_by_hop fields field) && not (is_written_anew field || (not (is_passed kind) && is_conditional field))
+goes_on kind fields field = not (is_hop_by_hop fields field) && not (is_written_anew field || is_left_out kind field)
 
 abbrev pub asked_lines : AskKind → List Field → List ℕ
 asked_lines kind fields = flat_map field_line (filter (goes_on kind fields) fields)

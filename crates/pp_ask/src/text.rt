@@ -4,7 +4,7 @@ ghost use Rattle.pp_head.specs.Shown.{shown_request};
 ghost use Rattle.pp_target.specs.Key.{IsPlaceIn, key_in};
 ghost use Rattle.pp_text.specs.Fields.{field_at};
 ghost use Rattle.pp_ask.specs.Puts.{IsPut};
-ghost use Rattle.pp_ask.specs.Texts.{ask_text, asked_lines, front, goes_on, host_line, is_conditional, is_passed, is_written_anew, request_line};
+ghost use Rattle.pp_ask.specs.Texts.{ask_text, asked_lines, front, goes_on, host_line, is_conditional, is_left_out, is_of_hole, is_passed, is_written_anew, request_line};
 
 use crate::kind::{AskKind, method, put_kind};
 use crate::lines::{ASK_LEN, TooLong, put, put_field, put_number, put_via};
@@ -121,8 +121,17 @@ fn goes_on(kind: &AskKind<'_>, fields: &Fields<'_, '_>, index: usize) -> bool
     ensures { result ≡ goes_on kind.now fields.now (field_at fields.now index) }
 {
     let name = fields.name(index);
-    let is_own = is_written_anew(name) || (!is_passed(kind) && is_conditional(name));
+    let is_own = is_written_anew(name) || is_left_out(kind, name);
     is_forwarded(fields, index) && !is_own
+}
+
+/// Fields that do not go on in an ask of this kind: what the client asks of its own copy, and where
+/// bytes of a version are asked for, the codings that it takes.
+fn is_left_out(kind: &AskKind<'_>, name: &[u8]) -> bool
+    ensures { result ≡ is_left_out kind.now (name.now, []) }
+{
+    let is_of_client = !is_passed(kind) && is_conditional(name);
+    is_of_client || (is_of_hole(kind) && same(b"accept-encoding", name))
 }
 
 /// Fields that an ask has of its own, or never.
@@ -146,5 +155,14 @@ fn is_passed(kind: &AskKind<'_>) -> bool
     match *kind {
         AskKind::Whole | AskKind::Range(_, _) | AskKind::Hole(_, _, _) | AskKind::Check(_) => false,
         AskKind::Pass => true,
+    }
+}
+
+fn is_of_hole(kind: &AskKind<'_>) -> bool
+    ensures { result ≡ is_of_hole kind.now }
+{
+    match *kind {
+        AskKind::Whole | AskKind::Range(_, _) | AskKind::Check(_) | AskKind::Pass => false,
+        AskKind::Hole(_, _, _) => true,
     }
 }

@@ -10,7 +10,7 @@
 //! chunks that was said is used in its order (`specs/Uses.antt`).
 //!
 //! The keys that a response names (`specs/Named.antt`; RFC 2616, sections 13.10, 14.14 and 14.30), and those that a turn has to
-//! note, stand beside it. Which response makes a row is for `pp_steps`, which chunk goes for `pp_evict`.
+//! note, stand beside it. Which response makes a row is for `pp_answers`, which chunk goes for `pp_evict`.
 #![tactic(auto)]
 
 mod cache; // instances and their chunks, in agreement

@@ -16,7 +16,7 @@ use Rattle.pp_text.specs.Fields.{Field, is_named, list_items}
 use Rattle.pp_text.specs.Forwarding.{hop_names, is_connection_token, is_hop_by_hop, is_private}
 use Rattle.pp_text.specs.Lists.{items_of}
 use Rattle.pp_valid.specs.EndToEnd.{end_to_end_values}
-use Rattle.pp_valid.specs.Kept.{date_value, is_lasting_of, is_renewed, is_renewed_of, is_written_anew, lasting_fields, renewed_fields}
+use Rattle.pp_valid.specs.Kept.{date_value, is_lasting_of, is_of_one_message, is_renewed, is_renewed_of, lasting_fields, renewed_fields}
 use Rattle.pp_cache_law.specs.Kept.{KeptAreKept, RefreshedAreKept}
 use Rattle.pp_cache_law.proofs.Numbers.{some_is}
 
@@ -67,7 +67,7 @@ renews t = bytes_eq (lower (codes "expires")) t || bytes_eq (lower (codes "cache
 abbrev pub is_anew : Test
 is_anew t =
     bytes_eq (lower (codes "content-length")) t || bytes_eq (lower (codes "content-range")) t || bytes_eq (lower (codes "age")) t
-    || bytes_eq (lower (codes "date")) t
+    || bytes_eq (lower (codes "date")) t || (bytes_eq (lower (codes "content-md5")) t || bytes_eq (lower (codes "content-digest")) t)
 
 -- of a field alone
 abbrev pub lasts : Field → Bool
@@ -90,7 +90,7 @@ named_by name other f is = by_name (λ t. bytes_eq (lower other) t) name f is
 not_connection : (f : Field) → lasts f ≡ true → is_named (codes "connection") f ≡ false
 not_connection f is = by (is_named (codes "connection") f) (list_any (λ name. is_named name f) (drop 1 hop_names)) is
   where
-    by : (a rest : Bool) → (not ((a || rest) || false || is_private f) && not (is_written_anew f || is_renewed f)) ≡ true → a ≡ false
+    by : (a rest : Bool) → (not ((a || rest) || false || is_private f) && not (is_of_one_message f || is_renewed f)) ≡ true → a ≡ false
     by true rest e = absurd cc
     by false rest e = refl
 
@@ -98,7 +98,7 @@ not_date : (f : Field) → lasts f ≡ true → is_named (codes "date") f ≡ fa
 not_date f is = grind (arith, common_steps, is)
 
 not_new : (f : Field) → lasts f ≡ true → is_new f ≡ false
-not_new f is = by (is_hop_by_hop [] f) (is_written_anew f) (is_renewed f) is
+not_new f is = by (is_hop_by_hop [] f) (is_of_one_message f) (is_renewed f) is
   where
     by : (h a r : Bool) → (not h && not (a || r)) ≡ true → (not h && r) ≡ false
     by true a r e = refl
@@ -107,7 +107,7 @@ not_new f is = by (is_hop_by_hop [] f) (is_written_anew f) (is_renewed f) is
     by false false false e = refl
 
 lasts_alone : (fields : List Field) (f : Field) → is_lasting_of fields f ≡ true → lasts f ≡ true
-lasts_alone fields f is = by (list_any (λ name. is_named name f) hop_names) (is_connection_token fields f) (is_private f) (not (is_written_anew f || is_renewed f)) is
+lasts_alone fields f is = by (list_any (λ name. is_named name f) hop_names) (is_connection_token fields f) (is_private f) (not (is_of_one_message f || is_renewed f)) is
   where
     by : (a t p r : Bool) → (not (a || t || p) && r) ≡ true → (not (a || false || p) && r) ≡ true
     by true t p r e = absurd cc
@@ -194,7 +194,7 @@ module _ (times : Times) (l d e c : List Field) (row : AreOfRow times.response l
 
   lasting_is : lasting_fields all ≡ l
   lasting_is =
-      filter_same (is_lasting_of all) lasts all (λ f. ap (λ (b : Bool). not b && not (is_written_anew f || is_renewed f)) (same_hop f))
+      filter_same (is_lasting_of all) lasts all (λ f. ap (λ (b : Bool). not b && not (is_of_one_message f || is_renewed f)) (same_hop f))
       ∙ chosen lasts l d e c l [] [] [] (all_stay lasts lasts l (λ f is. is) row.lasts) (all_go (is_named (codes "date")) lasts d (λ f is. lasts_by (codes "date") f is) row.dates_are)
       (all_go (is_named (codes "expires")) lasts e (λ f is. lasts_by (codes "expires") f is) row.expires_are)
       (all_go (is_named (codes "cache-control")) lasts c (λ f is. lasts_by (codes "cache-control") f is) row.controls_are)

@@ -11,7 +11,7 @@
 //! each call is the change of it that `specs/` says. `current` is what the reader of heads gives for
 //! what was heard, however that was cut.
 //!
-//! Only `Client::new` takes memory. Which reply is given is for the core, its head is for `pp_reply`.
+//! Only `Client::new` takes memory. Which reply is given is for `pp_due` and `pp_take`, its head for `pp_reply`.
 #![tactic(auto)]
 
 mod body; // what the bytes behind a head are

@@ -15,6 +15,7 @@ use Rattle.pp_laws_turn.proofs.Lifts.{obeying}
 use Rattle.pp_obeys.specs.Obeys.{Obeys}
 use Rattle.pp_reply.specs.Keeping.{is_end_known}
 use Rattle.pp_world.specs.Log.{Log}
+use Rattle.pp_world.specs.declared.note.Decision.{Decision}
 use Rattle.pp_comes_law.proofs.Wanted.{first_true}
 
 -- ---- of a reply that began
@@ -31,9 +32,9 @@ of_page status NoHeadYet keeps = absurd (cc keeps)
 of_page status (NoHead other) keeps = absurd (cc keeps)
 of_page status (IsRequest q) keeps = (q, refl, (first_true (keeps_open q) _ keeps).0)
 
-of_begun : (f : Front) (closes : Bool) (r : Reply) (head body : Bytes) → Begun f closes r head body → closes ≡ false → Keeps f
-of_begun f closes r head body (a_page status isnt_on to is none end) stays = of_page status f (kept closes (keeps_after status f) end stays)
-of_begun f closes r head body (a_kept q front isnt_on k long end) stays = (q, front, kept closes (keeps_open q) end stays)
+of_begun : {instances : List Instance} {next : ℕ} (f : Front) (closes : Bool) (r : Reply) (head body : Bytes) → Begun instances next f closes r head body → closes ≡ false → Keeps f
+of_begun f closes r head body (a_page status is_decided to is none end) stays = of_page status f (kept closes (keeps_after status f) end stays)
+of_begun f closes r head body (a_kept q front by k given end) stays = (q, front, kept closes (keeps_open q) end stays)
 of_begun f closes r head body (a_passed q front is_on p end) stays = (q, front, (first_true (keeps_open q) (is_end_known p.rule q.head.minor) (kept closes (keeps_open q && is_end_known p.rule q.head.minor) end stays)).0)
 
 -- ---- of one whose reply began
@@ -44,12 +45,12 @@ begun_in t = is_some_with (λ (r : Reply). r.has_begun) (elim t as (λ b. Option
 not_yet : (c : Client) (t : Stage) → c.stage ≡ t → begun_in t ≡ false → is_begun c ≡ true → ⊥
 not_yet c t stage off on = absurd (let both : false ≡ true = sym (ap begun_in stage ∙ off) ∙ on in cc both)
 
-of_now : (instances : List Instance) (next : ℕ) (c : Client) (last : Bytes) → Now instances next c last → is_begun c ≡ true → c.closes ≡ false → Keeps c.front
-of_now instances next c last (undecided stage none is) on stays = absurd (not_yet c Undecided stage refl on)
-of_now instances next c last (waiting (inl stage) has is) on stays = absurd (not_yet c Waiting stage refl on)
-of_now instances next c last (waiting (inr stage) has is) on stays = absurd (not_yet c Passing stage refl on)
-of_now instances next c last (chosen r stage off has is what) on stays = absurd (not_yet c (Answering r) stage off on)
-of_now instances next c last (begun r stage is_on has head body is rest what) on stays = of_begun c.front c.closes r head body what stays
+of_now : (instances : List Instance) (next : ℕ) (decided : Option Decision) (c : Client) (last : Bytes) → Now instances next decided c last → is_begun c ≡ true → c.closes ≡ false → Keeps c.front
+of_now instances next decided c last (undecided stage none is) on stays = absurd (not_yet c Undecided stage refl on)
+of_now instances next decided c last (waiting (inl stage) has is) on stays = absurd (not_yet c Waiting stage refl on)
+of_now instances next decided c last (waiting (inr stage) has is) on stays = absurd (not_yet c Passing stage.0 refl on)
+of_now instances next decided c last (chosen r stage off taken has is what) on stays = absurd (not_yet c (Answering r) stage off on)
+of_now instances next decided c last (begun r stage is_on taken has head body is rest what) on stays = of_begun c.front c.closes r head body what stays
 
 -- ---- in each state
 
@@ -60,8 +61,9 @@ story_on n terms s log obeys =
 
 pub kept_open : AnsweredOnesAreKeptOpen
 kept_open terms s log obeys c there on stays =
-    let story = (order_of (story_on c.number terms s log obeys).1).present c there refl in
-    let its : Keeps c.front = of_now s.instances s.next_instance c story.last story.now on stays in
+    let at = story_on c.number terms s log obeys in
+    let story = (order_of at.1).present c there refl in
+    let its : Keeps c.front = of_now s.instances s.next_instance (at.0.decided c.index) c story.last story.now on stays in
     record { request = its.0; front = its.1; keeps = its.2 }
 
 pub goes_on : AnsweredOnesGoOn

@@ -1,7 +1,7 @@
 -- How long, and how far, exchanges and requests go on. All of it is ours, but for RFC 2616, section 8.1.2, and RFC 4559, section 6.
 use Rattle.std.specs.Prelude.{ℕ, ◌-◌, Bool, ◌==◌, ◌&&◌, ◌||◌, not, nat_lt, nat_le}
 
--- the first tick of a life, and one that comes so many seconds behind the last, as long as a client may be idle
+-- the first tick of a life, and one that comes so many seconds behind the last, as long as a client that is amid no reply may be idle
 abbrev pub is_leap : ℕ → Bool → ℕ → Bool
 is_leap now has_ticked before = not has_ticked || nat_le 120 (now - before)
 

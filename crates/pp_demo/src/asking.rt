@@ -1,11 +1,10 @@
 // What the clients ask for.
-ghost use Rattle.std.specs.Prelude.{◌≡◌, ◌<◌, ◌≤◌, ◌^◌, ◌++◌, IfOk, OnOk, decimal};
+ghost use Rattle.std.specs.Prelude.{◌≡◌, ◌<◌, ◌≤◌, ◌^◌, ◌++◌, IfOk, OnOk};
 ghost use Rattle.pp_demo.specs.Asking.{behind_client, behind_clients, cues_of_client, cues_of_clients, range_behind, range_line, request_of, request_text};
 ghost use Rattle.pp_demo.specs.Generator.{state_behind};
 
 use crate::generator::Generator;
-use crate::pages::{LastOffsets, PAGES};
-use itoa::Buffer;
+use crate::pages::{LastOffsets, PAGES, put_number};
 use pp_memworld::Cue;
 use pp_text::{Octets, OutOfMemory};
 use std::alloc::{AllocError, Global};
@@ -151,10 +150,4 @@ fn put_range(range: Range, text: &mut Octets) -> Result<(), OutOfMemory>
             text.append(b"\r\n")
         }
     }
-}
-
-fn put_number(number: u64, text: &mut Octets) -> Result<(), OutOfMemory>
-    ensures { OnOk result (text.new ≡ text.old ++ decimal number) }
-{
-    text.append(Buffer::new().format(number).as_bytes())
 }

@@ -1,5 +1,5 @@
 // What the origin has.
-ghost use Rattle.std.specs.Prelude.{◌≡◌, ◌<◌, ◌+◌, ◌^◌, ◌++◌, IfOk, decimal};
+ghost use Rattle.std.specs.Prelude.{◌≡◌, ◌<◌, ◌+◌, ◌^◌, ◌++◌, IfOk, OnOk, decimal};
 ghost use Rattle.pp_demo.specs.Generator.{state_behind};
 ghost use Rattle.pp_demo.specs.Pages.{byte_at, bytes_up_to, last_offsets, page_of, pages_up_to};
 
@@ -64,9 +64,16 @@ fn numbered(alloc: Global, before: &[u8], number: u64, behind: &[u8]) -> Result<
     ensures { IfOk result (λ text. text ≡ before.now ++ decimal number ++ behind.now) }
 {
     let mut text = Octets::copy(alloc, before)?;
-    text.append(Buffer::new().format(number).as_bytes())?;
+    put_number(number, &mut text)?;
     text.append(behind)?;
     Ok(text)
+}
+
+/// Adds the digits of a number.
+pub(crate) fn put_number(number: u64, text: &mut Octets) -> Result<(), OutOfMemory>
+    ensures { OnOk result (text.new ≡ text.old ++ decimal number) }
+{
+    text.append(Buffer::new().format(number).as_bytes())
 }
 
 /// The bytes of the page of this number.

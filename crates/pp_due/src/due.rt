@@ -2,7 +2,7 @@
 ghost use Rattle.std.specs.Prelude.{◌≡◌, is_some};
 ghost use Rattle.pp_due.specs.Entering.{FirstDue, IsDueWithRow};
 ghost use Rattle.pp_due.specs.Due.{cut_of, decision_of, due_at, due_of, has_source_standing, is_dry, is_superseded};
-ghost use Rattle.pp_seats.specs.Dues.{cause_in, decision_in, due_in, follows, give_up_in, is_idle_in, is_read_in, is_short_in, lost_in};
+ghost use Rattle.pp_seats.specs.Dues.{cause_in, decision_in, due_in, follows, give_up_in, is_idle_in, is_read_in, is_short_in, lost_in, patience_in};
 
 use crate::kept::{bring_row_of, is_due_at, next_on_disk};
 use pp_decide::{decide, due_undecided};
@@ -11,7 +11,10 @@ use pp_shelf::Shelf;
 use pp_state::State;
 use pp_world::{Cause, Decision};
 
-/// Ours: a client that is idle for so many seconds is cut.
+/// Ours: a client that is idle for so many seconds is cut: in the midst of a reply, where one that reads slowly shows
+/// that only once the system's buffer has room again, and elsewhere.
+const REPLY_SECONDS: u64 = 900;
+
 const IDLE_SECONDS: u64 = 120;
 
 /// The first client, in the order of their numbers, for whom something is due. Where that is a decision, the kept row that
@@ -197,7 +200,18 @@ fn cause_of(
 fn is_idle(seat: &Seat, is_ticked: bool, now: u64) -> bool
     ensures { result ≡ is_idle_in is_ticked now seat.now }
 {
-    is_ticked && IDLE_SECONDS <= now.saturating_sub(seat.client.mark())
+    let patience = patience_for(seat);
+    is_ticked && patience <= now.saturating_sub(seat.client.mark())
+}
+
+fn patience_for(seat: &Seat) -> u64
+    ensures { result ≡ patience_in seat.now }
+{
+    if seat.has_begun() {
+        REPLY_SECONDS
+    } else {
+        IDLE_SECONDS
+    }
 }
 
 /// Its response ended early.

@@ -18,7 +18,7 @@ use Rattle.pp_text.specs.Lists.{items_of}
 use Rattle.pp_head.specs.Agreement.{IsFieldText}
 use Rattle.pp_valid.proofs.OnLiterals.{pp_valid_on_literals}
 use Rattle.pp_valid.specs.EndToEnd.{is_dropped}
-use Rattle.pp_valid.specs.Kept.{is_written_anew}
+use Rattle.pp_valid.specs.Kept.{is_of_one_message}
 use Rattle.pp_valid.specs.TagStates.{state_in, tag_of}
 use Rattle.pp_valid.specs.Versions.{strong_part}
 use Rattle.pp_entry.specs.Entries.{Row, row_at}
@@ -101,15 +101,15 @@ hop-lower fs f =
     ap (λ (t : List ℕ). list_any (λ name. bytes_eq (lower name) t) hop_names || is_connection_token (map lowered fs) (lowered f) || starts_with nat_eq t (codes "x-polipo-")) (lower-lower f.0)
     ∙ ap (λ (b : Bool). list_any (λ name. is_named name f) hop_names || b || is_private f) (token-same fs f)
 
-anew-lower : (f : Field) → is_written_anew (lowered f) ≡ is_written_anew f
+anew-lower : (f : Field) → is_of_one_message (lowered f) ≡ is_of_one_message f
 anew-lower f =
-    ap (λ (t : List ℕ). bytes_eq (lower (codes "content-length")) t || bytes_eq (lower (codes "content-range")) t || bytes_eq (lower (codes "age")) t || bytes_eq (lower (codes "date")) t)
+    ap (λ (t : List ℕ). bytes_eq (lower (codes "content-length")) t || bytes_eq (lower (codes "content-range")) t || bytes_eq (lower (codes "age")) t || bytes_eq (lower (codes "date")) t || (bytes_eq (lower (codes "content-md5")) t || bytes_eq (lower (codes "content-digest")) t))
     (lower-lower f.0)
 
 kept-lower : (fs : List Field) (f : Field) → may_be_kept (map lowered fs) (lowered f) ≡ may_be_kept fs f
 kept-lower fs f =
-    ap (λ (b : Bool). not b && (is_named (codes "date") (lowered f) || not (is_written_anew (lowered f)))) (hop-lower fs f)
-    ∙ ap (λ (b : Bool). not (is_hop_by_hop fs f) && (b || not (is_written_anew (lowered f)))) (named-lower (codes "date") f)
+    ap (λ (b : Bool). not b && (is_named (codes "date") (lowered f) || not (is_of_one_message (lowered f)))) (hop-lower fs f)
+    ∙ ap (λ (b : Bool). not (is_hop_by_hop fs f) && (b || not (is_of_one_message (lowered f)))) (named-lower (codes "date") f)
     ∙ ap (λ (b : Bool). not (is_hop_by_hop fs f) && (is_named (codes "date") f || not b)) (anew-lower f)
 
 all-lower : (all fs : List Field) → list_all (may_be_kept (map lowered all)) (map lowered fs) ≡ list_all (may_be_kept all) fs

@@ -47,7 +47,7 @@ its_own = codes "X-Polipo-Location: http://h/a\r\nX-Polipo-Date: 784111777\r\nX-
 dated : List ℕ → List ℕ
 dated kept = kept ++ codes "date: Sun, 06 Nov 1994 08:49:37 GMT\r\n"
 
--- kept fields have one strong tag and one spelling, and none is of one connection or written anew into each reply
+-- kept fields have one strong tag and one spelling, and none is of one connection or one message
 kept_fields : map (λ kept. is_entry (dated kept) its_own) (
     codes "etag: \"x\"\r\n"
     ∷ codes "a: 1\r\netag: \"x\"\r\na: \r\n"
@@ -64,8 +64,11 @@ kept_fields : map (λ kept. is_entry (dated kept) its_own) (
     ∷ codes "etag: \"x\"\r\ncontent-length: 5\r\n"
     ∷ codes "etag: \"x\"\r\ncontent-range: bytes 0-4/5\r\n"
     ∷ codes "age: 1\r\netag: \"x\"\r\n"
+    ∷ codes "etag: \"x\"\r\ncontent-md5: Q2hlY2sgSW50ZWdyaXR5IQ==\r\n"
+    ∷ codes "content-digest: sha-256=:RBNvo1WzZ4oRRq0W9+hknpT7T8If536DEMBg9hyq/4o=:\r\netag: \"x\"\r\n"
+    ∷ codes "etag: \"x\"\r\nrepr-digest: a\r\ndigest: b\r\n"
     ∷ [])
-    ≡ true ∷ true ∷ false ∷ false ∷ false ∷ false ∷ false ∷ false ∷ false ∷ false ∷ false ∷ false ∷ false ∷ false ∷ false ∷ []
+    ≡ true ∷ true ∷ false ∷ false ∷ false ∷ false ∷ false ∷ false ∷ false ∷ false ∷ false ∷ false ∷ false ∷ false ∷ false ∷ false ∷ false ∷ true ∷ []
 unfolding is_entry dated its_own on_literals
 kept_fields = refl
 

@@ -6,7 +6,7 @@ use Rattle.pp_text.specs.Bytes.{lower}
 use Rattle.pp_text.specs.Fields.{Field, first_value, is_named}
 use Rattle.pp_text.specs.Forwarding.{is_hop_by_hop}
 use Rattle.pp_text.specs.Lines.{lines_of}
-use Rattle.pp_valid.specs.Kept.{is_renewed, is_written_anew}
+use Rattle.pp_valid.specs.Kept.{is_of_one_message, is_renewed}
 
 -- "Field names are case-insensitive" (RFC 2616, section 4.2); ours: they are kept in lower case
 abbrev pub lowered : Field → Field
@@ -17,9 +17,9 @@ abbrev pub is_passing : Field → Bool
 is_passing field = is_named (codes "date") field || is_renewed field
 
 -- "All other headers defined by HTTP/1.1 are end-to-end headers" and are stored (section 13.5.1); ours: but for those
--- that are written anew into each reply, of which only Date tells when the response was made
+-- that are of one message and not of the body, of which only Date is kept, since it tells when the response was made
 abbrev pub may_be_kept : List Field → Field → Bool
-may_be_kept fields field = not (is_hop_by_hop fields field) && (is_named (codes "date") field || not (is_written_anew field))
+may_be_kept fields field = not (is_hop_by_hop fields field) && (is_named (codes "date") field || not (is_of_one_message field))
 
 -- ours: those that last stand first, and behind them Date, Expires and Cache-Control
 abbrev pub place_of : Field → ℕ

@@ -7,7 +7,7 @@ ghost use Rattle.pp_entry.specs.Fields.{are_allowed, are_in_order, is_dated, is_
 
 use httpdate::HttpDate;
 use pp_text::{Fields, is_forwarded, same};
-use pp_valid::{is_renewed, is_written_anew, line_len};
+use pp_valid::{is_of_one_message, is_renewed, line_len};
 
 /// The bytes that another response of the version may renew.
 const RENEWED_ROOM: usize = 2048;
@@ -39,7 +39,7 @@ fn may_be_kept(fields: &Fields<'_, '_>, index: usize) -> bool
     ensures { result ≡ may_be_kept fields.now (field_at fields.now index) }
 {
     let name = fields.name(index);
-    is_forwarded(fields, index) && (same(b"date", name) || !is_written_anew(name))
+    is_forwarded(fields, index) && (same(b"date", name) || !is_of_one_message(name))
 }
 
 /// Whether the lines of the fields that may be renewed fit the room for them.

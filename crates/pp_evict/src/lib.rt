@@ -6,7 +6,7 @@
 //! To the layer above: just the victim's bytes are out, in the pool and in its instance, and all else
 //! is as before.
 //!
-//! Takes no memory. When room is to be made is for the core.
+//! Takes no memory. When room is to be made is for `pp_steps`.
 #![tactic(auto)]
 
 mod room; // one victim

@@ -6,6 +6,30 @@ use pp_play::{
 use pp_world::{Cause, Decision};
 use std::test::Fail;
 
+/// A client takes ten bytes of its reply, and its fifteen minutes are over in a second.
+macro_rules! nearly_cut {
+    ($then:expr) => {
+        &[
+            Act::Tick(T),
+            Act::Connect,
+            Act::Window(1, 10),
+            Act::Say(1, GET),
+            Act::Reach(2),
+            Act::Answer(2, HEAD),
+            Act::Answer(2, b"hello"),
+            Act::Tick(T + 119),
+            Act::Tick(T + 238),
+            Act::Tick(T + 357),
+            Act::Tick(T + 476),
+            Act::Tick(T + 595),
+            Act::Tick(T + 714),
+            Act::Tick(T + 833),
+            Act::Tick(T + 899),
+            $then,
+        ]
+    };
+}
+
 const CLIENTS: &[Exchange<'static>] = &[
     Exchange {
         name: "within its request",
@@ -39,18 +63,8 @@ const CLIENTS: &[Exchange<'static>] = &[
         wanted: &[Wanted::Course(1, &[Step::Opened, Step::Stopped, Step::Shut])],
     },
     Exchange {
-        name: "within its reply",
-        acts: &[
-            Act::Tick(T),
-            Act::Connect,
-            Act::Window(1, 10),
-            Act::Say(1, GET),
-            Act::Reach(2),
-            Act::Answer(2, HEAD),
-            Act::Answer(2, b"hello"),
-            Act::Tick(T + 119),
-            Act::Tick(T + 120),
-        ],
+        name: "within its reply: it has fifteen minutes",
+        acts: nearly_cut!(Act::Tick(T + 900)),
         wanted: &[Wanted::Course(
             1,
             &[
@@ -63,6 +77,11 @@ const CLIENTS: &[Exchange<'static>] = &[
                 Step::Stopped,
             ],
         )],
+    },
+    Exchange {
+        name: "within its reply, but for what it takes in time",
+        acts: nearly_cut!(Act::Window(1, 1_000)),
+        wanted: &[Wanted::Said(1, &[Part::Text(REPLY)])],
     },
 ];
 

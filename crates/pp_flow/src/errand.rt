@@ -76,7 +76,7 @@ pub struct Errand {
     pub is_safe: bool,
     /// Its request authenticates the connection, which nobody else may be asked on (RFC 4559, section 6).
     pub binds_connection: bool,
-    /// Its request takes no content coding.
+    /// It was asked without a wish for a content coding.
     pub accepts_only_identity: bool,
     /// It allows a guess of how long a response is fresh.
     pub allows_guess: bool,

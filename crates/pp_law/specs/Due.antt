@@ -65,9 +65,14 @@ is_short c = is_some_with (λ p. p.is_short && not p.pipe.is_finished) (passed_o
 abbrev pub is_superseded : State → Client → Bool
 is_superseded s c = is_some_with (λ n. n.source.is_retired && not (is_provided s n)) (next_of s c)
 
--- ours: idle for 120 seconds, at a tick
+-- ours: how long it may be idle. One that reads slowly shows that only where the system's buffer has room again: so it has longer
+-- in the midst of a reply
+abbrev pub patience : Client → ℕ
+patience c = elim (is_begun c) [ true ↦ 900 | false ↦ 120 ]
+
+-- at a tick
 abbrev pub is_idle : State → Client → Bool
-is_idle s c = s.is_ticked && nat_le 120 (s.clock - c.mark)
+is_idle s c = s.is_ticked && nat_le (patience c) (s.clock - c.mark)
 
 -- the causes of a cut, in their order. What came is said before a reply is cut for its origin
 abbrev pub causes : State → Client → List (Bool × Cause)

@@ -86,9 +86,13 @@ useless e s = lose_attempt e (drop_answer e s)
 
 -- ---- a response with a version
 
--- what has a content coding has one only where the request had no other wish
+-- no wish for codings goes with what is asked of a version
+abbrev pub asks_only_identity : Exchange → Bool
+asks_only_identity e = elim e.aim [ Through ↦ accepts_only_identity e.head.fields | Own ↦ accepts_only_identity e.head.fields | Filling v from to ↦ true ]
+
+-- what has a content coding has one only where the ask had no other wish
 abbrev pub version_in : Exchange → Response → Option Version
-version_in e head = version_of head.fields head.status (accepts_only_identity e.head.fields)
+version_in e head = version_of head.fields head.status (asks_only_identity e)
 
 -- "private", "no-store" and what varies by client
 abbrev pub forbids_sharing : Response → Bool

@@ -29,7 +29,8 @@ marked_conn now k = record k { mark = now }
 unfoldable pub touch : ℕ → State → State
 touch n s = on_conn n (marked_conn s.clock) (on_client n (marked_client s.clock) s)
 
--- ours: a tick that comes so many seconds behind the last one, as long as a client may be idle, tells of a computer that was asleep
+-- ours: a tick that comes so many seconds behind the last one, as long as a client that is amid no reply may be idle, tells of a computer
+-- that was asleep
 abbrev pub leap : ℕ
 leap = 120
 

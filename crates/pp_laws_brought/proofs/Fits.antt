@@ -6,13 +6,12 @@ use Rattle.pp_framing.specs.Rules.{body_of}
 use Rattle.pp_framing.specs.declared.body.BodyRule.{BodyRule}
 use Rattle.pp_head.specs.Response.{Response}
 use Rattle.pp_text.specs.Fields.{Field}
-use Rattle.pp_valid.specs.Codings.{accepts_only_identity}
 use Rattle.pp_valid.specs.Kept.{has_room_for}
 use Rattle.pp_valid.specs.TagStates.{tag_of}
 use Rattle.pp_valid.specs.Versions.{can_keep, can_share, is_telling, strong_part, total_of, version_of, version_with}
 use Rattle.pp_valid.specs.declared.version.Version.{Version}
 use Rattle.pp_law.specs.Lists.{Bytes}
-use Rattle.pp_law.specs.OwnHeads.{end_in, range_in}
+use Rattle.pp_law.specs.OwnHeads.{asks_only_identity, end_in, range_in}
 use Rattle.pp_law.specs.Responses.{answer_with, asks_head, payload_of}
 use Rattle.pp_law.specs.Stages.{is_through}
 use Rattle.pp_law.specs.State.{Answer, Exchange}
@@ -59,7 +58,7 @@ starts_of e head rule found own = record {
   spans = λ v is.
       let w = spans_within e head v is in
       record {
-        span = record { order = w.order; short = le_trans w.ends (short_made head.fields head.status (accepts_only_identity e.head.fields) v is) };
+        span = record { order = w.order; short = le_trans w.ends (short_made head.fields head.status (asks_only_identity e) v is) };
         room = λ more. no_less _ _ (length (payload_of (answer_with e head rule))) (bodies_fill e head v rule more own is found);
         ends = λ u told. let same_version : v ≡ u = some_in (sym is ∙ told) in subst (λ (x : Version). end_in (range_in head) v.length ≤ x.length) same_version w.ends;
       };

@@ -29,7 +29,7 @@ use Rattle.pp_laws_replies.proofs.StoryDecided.{IsRowFor, row_for_it}
 use Rattle.pp_laws_replies.proofs.Usable.{UsedRow}
 use Rattle.pp_laws_decided.proofs.Begins.{as_stage, unread}
 use Rattle.pp_laws_decided.proofs.Fits.{Fit, Fits, FitsIn, changed_fits, quiet_fits, to_pass, to_show}
-use Rattle.pp_laws_decided.proofs.Spans.{span_end}
+use Rattle.pp_laws_replies.proofs.Spans.{span_end}
 
 -- ---- pages, asks, replies that are passed
 

@@ -47,7 +47,7 @@ use Rattle.pp_laws_decided.specs.Decided.{IsChosen, IsSpanOf, TurnsAreDecided}
 use Rattle.pp_laws_decided.proofs.Begins.{end_replies_fits}
 use Rattle.pp_laws_decided.proofs.Choices.{decided_fits}
 use Rattle.pp_laws_decided.proofs.Fits.{Choice, Fits, all_of, fits, quiet_fits, to_pass, to_show}
-use Rattle.pp_laws_decided.proofs.Spans.{part_of, span_end, span_order}
+use Rattle.pp_laws_replies.proofs.Spans.{part_of, span_end, span_order}
 use Rattle.pp_laws_decided.proofs.Steps.{ask_fits, begun_op_fits, dialled_fits, dropped_fits, ended_op_fits, ending_fits, event_fits, evicted_fits, forgotten_by_fits, gone_fits, hang_up_fits, hear_fits, opened_fits, owing_fits, paid_fits, reached_fits, said_steps, shut_fits, undialled_fits, unread_fits, woken_fits}
 
 -- ---- decisions

@@ -1,4 +1,3 @@
-pub mod Spans
 pub mod Fits
 pub mod Begins
 pub mod Choices

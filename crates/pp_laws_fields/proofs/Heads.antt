@@ -16,7 +16,7 @@ use Rattle.pp_text.specs.Bytes.{is_empty}
 use Rattle.pp_valid.specs.declared.version.Version.{Version}
 use Rattle.pp_law.specs.Connections.{conn, exchange, is_for, front_of_line, on_conn, attempts_of, without_shared_row, end_exchange, close_conn}
 use Rattle.pp_law.specs.Lists.{Bytes, is_some_with}
-use Rattle.pp_law.specs.OwnHeads.{key_of, tell, use_body, drop_answer, useless, times_for, renewed, renew, settle_on, renew_row, may_refresh, settle_known, known_version, settle, may_join, names_version, settle_unchanged, unchanged, is_of_another, forbids_sharing, not_shared, not_modified, clears_row, cleared_by, is_private_part, is_widened, relay_head, other_head, other_part, own_head, is_bound, lacks_next, count_elsewhere, part_head, filling_head, version_in, is_wrong_head, note_own, note_sent, join, join_bound}
+use Rattle.pp_law.specs.OwnHeads.{asks_only_identity, key_of, tell, use_body, drop_answer, useless, times_for, renewed, renew, settle_on, renew_row, may_refresh, settle_known, known_version, settle, may_join, names_version, settle_unchanged, unchanged, is_of_another, forbids_sharing, not_shared, not_modified, clears_row, cleared_by, is_private_part, is_widened, relay_head, other_head, other_part, own_head, is_bound, lacks_next, count_elsewhere, part_head, filling_head, version_in, is_wrong_head, note_own, note_sent, join, join_bound}
 use Rattle.pp_law.specs.Passing.{pour}
 use Rattle.pp_law.specs.Responses.{skipping, skip_body, rested, close_this, may_go_on, finish, bad_response, bad_head, by_aim, asks_head, answer_with, end_if_empty, begin_answer, answer_for, head_came, Piece, is_early, with_unread, head_piece, deliver, payload_of, body_piece_of, body_piece, next_piece, got, is_whole_at_end, finish_first, ended, bring_row, is_readable}
 use Rattle.pp_law.specs.Stages.{on_passed, bound_of}
@@ -28,7 +28,6 @@ use Rattle.pp_laws.proofs.Sound.{instance_id}
 use Rattle.pp_laws.proofs.Tests.{same_number, second_holds}
 use Rattle.pp_text.specs.Fields.{Field}
 use Rattle.pp_law.specs.ThroughHeads.{invalidates, key_named, is_same_host, clear_named, clear_each, places_named, invalidated, disproves, reads, disproved, through_head}
-use Rattle.pp_valid.specs.Codings.{accepts_only_identity}
 use Rattle.pp_laws_fields.proofs.Asks.{close_conn-keeps, end_exchange-keeps, fail-keeps, lose_attempt-keeps, on_client_of-keeps, on_conn-keeps, on_exchange-keeps}
 use Rattle.pp_laws_fields.proofs.Cases.{by_aim_of, by_outcome, by_result, each_of, each_so, when, when_so}
 use Rattle.pp_laws_fields.proofs.Rows.{clear-keeps, enter-keeps, make_row-keeps, mark_row-keeps, note_use-keeps, on_instance-keeps}
@@ -86,7 +85,7 @@ unfolding settle
 settle-keeps k0 e head v s is h =
     when (is_some_with (may_join e head v) (known_version s (key_of e))) (settle_known-keeps k0 e head v s h)
     (settle_on-keeps e head v _
-    (make_row-keeps (key_of e) v (kept_of head.fields (times_for e head s)) (times_for e head s) s (k0.made head.fields head.status (accepts_only_identity e.head.fields) v (times_for e head s) is) h))
+    (make_row-keeps (key_of e) v (kept_of head.fields (times_for e head s)) (times_for e head s) s (k0.made head.fields head.status (asks_only_identity e) v (times_for e head s) is) h))
 
 -- ---- 304, and a response without a version
 

@@ -18,7 +18,7 @@ use Rattle.pp_laws.specs.Runs.{IsIn}
 use Rattle.pp_laws.proofs.Lists.{one_of}
 use Rattle.pp_laws.proofs.Sound.{Since, Sound, client_number, facts_of as sound_facts}
 use Rattle.pp_laws.proofs.Tests.{same_number}
-use Rattle.pp_laws_decided.proofs.Spans.{span_order}
+use Rattle.pp_laws_replies.proofs.Spans.{span_order}
 use Rattle.pp_laws_replies.specs.ByRow.{is_by_row}
 use Rattle.pp_laws_replies.proofs.Quiet.{Quietly, facts_of, quiet_same}
 use Rattle.pp_laws_replies.proofs.QuietAsks.{begin_exchange-quiet, leave-quiet}

@@ -20,7 +20,7 @@ use Rattle.pp_law.specs.ThroughHeads.{clear_each, clear_named, disproved, dispro
 use Rattle.pp_laws.proofs.Lists.{in_find}
 use Rattle.pp_laws.proofs.Tests.{first_holds, same_number}
 use Rattle.pp_laws_ends.proofs.Wanted.{any_of}
-use Rattle.pp_laws_passed.proofs.HasRows.{HasRow, make_row-has, renewed-has}
+use Rattle.pp_laws_replies.proofs.HasRows.{HasRow, make_row-has, renewed-has}
 use Rattle.pp_laws_served.specs.Served.{is_unanswered}
 use Rattle.pp_laws_turn.proofs.Cases.{each_of, when}
 use Rattle.pp_laws_turn.proofs.Rows.{clear-keeps, make_row-keeps, mark_row-keeps, on_instance-keeps}

@@ -1,4 +1,6 @@
 pub mod Stands
+pub mod Hosts
+pub mod Once
 pub mod Lined
 pub mod Cases
 pub mod LinedAsks

@@ -12,6 +12,8 @@ use Rattle.pp_laws.proofs.Sound.{conn_number, exchange_number, first_of}
 use Rattle.pp_laws.proofs.Tests.{number_same, same_number}
 use Rattle.pp_laws_bounds.proofs.Counts.{in_filter_of}
 use Rattle.pp_laws_passed.proofs.Same.{PartsOf, Same, facts_of as parts_of}
+use Rattle.pp_laws_lines.specs.Hosts.{WasDialled}
+use Rattle.pp_laws_lines.proofs.Hosts.{GoesTo, dialled_as, goes_as, goes_with}
 use Rattle.pp_laws_lines.proofs.Stands.{Follows, MayGo, SameAsk, Since, Tells, WholeIn, ask_same, asked_whole, fresh_stands, others, stands_push, tells_by, tells_fewer, unasked}
 
 -- a connection that is answered: all of the first of its line was asked, and the response is of that one
@@ -35,6 +37,8 @@ pub record Facts (b : Since) (exchanges : List Exchange) (next_exchange : ℕ) (
   pub spelled : (e : Exchange) → IsIn e exchanges → 0 < length e.text
   pub lined : (k : Conn) (m : ℕ) → IsIn k conns → IsIn m k.line → m < next_exchange
   pub placed : (k : Conn) (e : Exchange) → IsIn k conns → IsIn e exchanges → IsIn e.number k.line → e.place ≡ Some k.number
+  pub hosts : (k : Conn) (e : Exchange) → IsIn k conns → IsIn e exchanges → IsIn e.number k.line → GoesTo e k
+  pub dialled : (k : Conn) → IsIn k conns → WasDialled b.log k.number k.host k.port
   pub distinct : (k : Conn) → IsIn k conns → AreDistinct k.line
   pub closed : (k : Conn) → IsIn k conns → k.is_closing ≡ true → (k.line ≡ []) × (k.answer ≡ None)
   pub streams : (k : Conn) → IsIn k conns → k.is_closing ≡ false → (b.gone ≡ Some k.number → ⊥) → Tells b.terms b.log k.number (asked k.number b.log) exchanges k.line
@@ -79,6 +83,8 @@ exchanges_from b s ys rise back forth kept h = record {
   spelled = λ e i. let f = back e i in subst (λ (t : Bytes). 0 < length t) (sym f.text) (h.spelled f.was f.there);
   lined = h.lined;
   placed = λ k e i j l. let f = back e j in let g = in_line k e i j l in g.place ∙ h.placed k f.was i f.there (subst (λ n. IsIn n k.line) f.number l);
+  hosts = λ k e i j l. let f = back e j in let g = in_line k e i j l in goes_as e f.was k g.key (h.hosts k f.was i f.there (subst (λ n. IsIn n k.line) f.number l));
+  dialled = h.dialled;
   distinct = h.distinct;
   closed = h.closed;
   streams = λ k i isnt on. tells_by b.terms b.log k.number (asked k.number b.log) s.exchanges ys k.line (follows k i) (h.streams k i isnt on);
@@ -188,6 +194,8 @@ exchange_added b s e none number spelled h = record {
   spelled = λ d i. spelled_by d (in_push d s.exchanges e i);
   lined = λ k m i l. more m (h.lined k m i l);
   placed = λ k d i j l. placed_by k d i (in_push d s.exchanges e j) l;
+  hosts = λ k d i j l. hosts_by k d i (in_push d s.exchanges e j) l;
+  dialled = h.dialled;
   distinct = h.distinct;
   closed = h.closed;
   streams = λ k i isnt on. tells_by b.terms b.log k.number (asked k.number b.log) s.exchanges (s.exchanges ++ e ∷ []) k.line (follows k i) (h.streams k i isnt on);
@@ -214,6 +222,10 @@ exchange_added b s e none number spelled h = record {
     placed_by k d i (inl j) l = h.placed k d i j l
     placed_by k d i (inr eq) l = absurd (never k d i eq l)
 
+    hosts_by : (k : Conn) (d : Exchange) → IsIn k s.conns → IsIn d s.exchanges ⊎ (d ≡ e) → IsIn d.number k.line → GoesTo d k
+    hosts_by k d i (inl j) l = h.hosts k d i j l
+    hosts_by k d i (inr eq) l = absurd (never k d i eq l)
+
     in_front_of : (d : Exchange) (xs : List Exchange) → IsIn d xs → IsIn d (xs ++ e ∷ [])
     in_front_of d [] i = absurd i
     in_front_of d (x ∷ xs) (inl eq) = inl eq
@@ -235,26 +247,30 @@ exchange_added b s e none number spelled h = record {
 
 -- ---- connections
 
--- it was there, with that line, and with that answer or none
+-- it was there, to the same host, with that line, and with that answer or none
 pub record FromConn (conns : List Conn) (k : Conn) : Type 0 where
   pub was : Conn
   pub there : IsIn was conns
   pub number : k.number ≡ was.number
+  pub host : k.host ≡ was.host
+  pub port : k.port ≡ was.port
   pub line : k.line ≡ was.line
   pub answer : (k.answer ≡ was.answer) ⊎ (k.answer ≡ None)
   pub closing : k.is_closing ≡ was.is_closing
 
 pub record SameConn (k j : Conn) : Type 0 where
   pub number : k.number ≡ j.number
+  pub host : k.host ≡ j.host
+  pub port : k.port ≡ j.port
   pub line : k.line ≡ j.line
   pub answer : (k.answer ≡ j.answer) ⊎ (k.answer ≡ None)
   pub closing : k.is_closing ≡ j.is_closing
 
 conn_by : (conns : List Conn) (k j : Conn) → IsIn j conns → SameConn k j → FromConn conns k
-conn_by conns k j i e = record { was = j; there = i; number = e.number; line = e.line; answer = e.answer; closing = e.closing }
+conn_by conns k j i e = record { was = j; there = i; number = e.number; host = e.host; port = e.port; line = e.line; answer = e.answer; closing = e.closing }
 
 conn_same : (k : Conn) → SameConn k k
-conn_same k = record { number = refl; line = refl; answer = inl refl; closing = refl }
+conn_same k = record { number = refl; host = refl; port = refl; line = refl; answer = inl refl; closing = refl }
 
 pub conns_from : (b : Since) (s : State) (conns : List Conn) → AreRising (map conn_number conns) → ((k : Conn) → IsIn k conns → FromConn s.conns k) → FactsOf b s → FactsOf b (record s { conns = conns })
 conns_from b s conns apart from h = record {
@@ -266,6 +282,8 @@ conns_from b s conns apart from h = record {
   spelled = h.spelled;
   lined = λ k m i l. let f = from k i in h.lined f.was m f.there (subst (λ ns. IsIn m ns) f.line l);
   placed = λ k e i j l. let f = from k i in h.placed f.was e f.there j (subst (λ ns. IsIn e.number ns) f.line l) ∙ ap (λ n. Some n) (sym f.number);
+  hosts = λ k e i j l. let f = from k i in goes_with e k f.was f.host f.port (h.hosts f.was e f.there j (subst (λ ns. IsIn e.number ns) f.line l));
+  dialled = λ k i. let f = from k i in dialled_as b.log k f.was f.number f.host f.port (h.dialled f.was f.there);
   distinct = λ k i. let f = from k i in subst AreDistinct (sym f.line) (h.distinct f.was f.there);
   closed = λ k i is. let f = from k i in let w = h.closed f.was f.there (sym f.closing ∙ is) in (f.line ∙ w.0, none_by k f w.1);
   streams = λ k i isnt on. let f = from k i in
@@ -312,6 +330,8 @@ conns_off b s n h = record {
   spelled = h.spelled;
   lined = λ k m i l. lined_by k m (at k i) l;
   placed = λ k e i j l. placed_by k e (at k i) j l;
+  hosts = λ k e i j l. hosts_by k e (at k i) j l;
+  dialled = λ k i. dialled_by k (at k i);
   distinct = λ k i. distinct_by k (at k i);
   closed = λ k i is. closed_by k (at k i) is;
   streams = λ k i isnt on. streams_by k (at k i) isnt on;
@@ -334,6 +354,14 @@ conns_off b s n h = record {
     placed_by k e (same i isnt) j l = h.placed k e i j l
     placed_by k e (other g i hit eq) j l = absurd (subst (λ (x : Conn). IsIn e.number x.line) eq l)
 
+    hosts_by : (k : Conn) (e : Exchange) → Changed (is_conn n) off s.conns k → IsIn e s.exchanges → IsIn e.number k.line → GoesTo e k
+    hosts_by k e (same i isnt) j l = h.hosts k e i j l
+    hosts_by k e (other g i hit eq) j l = absurd (subst (λ (x : Conn). IsIn e.number x.line) eq l)
+
+    dialled_by : (k : Conn) → Changed (is_conn n) off s.conns k → WasDialled b.log k.number k.host k.port
+    dialled_by k (same i isnt) = h.dialled k i
+    dialled_by k (other j i hit eq) = subst (λ (x : Conn). WasDialled b.log x.number x.host x.port) (sym eq) (h.dialled j i)
+
     distinct_by : (k : Conn) → Changed (is_conn n) off s.conns k → AreDistinct k.line
     distinct_by k (same i isnt) = h.distinct k i
     distinct_by k (other j i hit eq) = subst (λ (x : Conn). AreDistinct x.line) (sym eq) tt
@@ -351,9 +379,9 @@ conns_off b s n h = record {
     answers_by k a (other j i hit eq) is on = let both : None ≡ Some a = sym (ap (λ (x : Conn). x.answer) eq) ∙ is in absurd (cc both)
 
 -- a head came for the first of its line, of which all was asked
-pub conns_answered : (b : Since) (s : State) (n : ℕ) (f : Conn → Conn) → ((k : Conn) → (f k).number ≡ k.number) → ((k : Conn) → (f k).line ≡ k.line) → ((k : Conn) → (f k).is_closing ≡ k.is_closing)
+pub conns_answered : (b : Since) (s : State) (n : ℕ) (f : Conn → Conn) → ((k : Conn) → (f k).number ≡ k.number) → ((k : Conn) → (f k).host ≡ k.host) → ((k : Conn) → (f k).port ≡ k.port) → ((k : Conn) → (f k).line ≡ k.line) → ((k : Conn) → (f k).is_closing ≡ k.is_closing)
     → ((k : Conn) → IsIn k s.conns → k.number ≡ n → (k.is_closing ≡ false) × Heads (b.firsts k.number) s.exchanges k) → FactsOf b s → FactsOf b (record s { conns = change (is_conn n) f s.conns })
-conns_answered b s n f number line closing heads h = record {
+conns_answered b s n f number host port line closing heads h = record {
   low = h.low;
   apart = rise_change conn_number (is_conn n) f number s.conns h.apart;
   known = λ k i. known_by k (at k i);
@@ -362,6 +390,8 @@ conns_answered b s n f number line closing heads h = record {
   spelled = h.spelled;
   lined = λ k m i l. lined_by k m (at k i) l;
   placed = λ k e i j l. placed_by k e (at k i) j l;
+  hosts = λ k e i j l. hosts_by k e (at k i) j l;
+  dialled = λ k i. dialled_by k (at k i);
   distinct = λ k i. distinct_by k (at k i);
   closed = λ k i is. closed_by k (at k i) is;
   streams = λ k i isnt on. streams_by k (at k i) isnt on;
@@ -383,6 +413,15 @@ conns_answered b s n f number line closing heads h = record {
     placed_by : (k : Conn) (e : Exchange) → Changed (is_conn n) f s.conns k → IsIn e s.exchanges → IsIn e.number k.line → e.place ≡ Some k.number
     placed_by k e (same i isnt) j l = h.placed k e i j l
     placed_by k e (other q i hit eq) j l = h.placed q e i j (subst (λ ns. IsIn e.number ns) (ap (λ (x : Conn). x.line) eq ∙ line q) l) ∙ ap (λ m. Some m) (sym (ap conn_number eq ∙ number q))
+
+    hosts_by : (k : Conn) (e : Exchange) → Changed (is_conn n) f s.conns k → IsIn e s.exchanges → IsIn e.number k.line → GoesTo e k
+    hosts_by k e (same i isnt) j l = h.hosts k e i j l
+    hosts_by k e (other q i hit eq) j l =
+        goes_with e k q (ap (λ (x : Conn). x.host) eq ∙ host q) (ap (λ (x : Conn). x.port) eq ∙ port q) (h.hosts q e i j (subst (λ ns. IsIn e.number ns) (ap (λ (x : Conn). x.line) eq ∙ line q) l))
+
+    dialled_by : (k : Conn) → Changed (is_conn n) f s.conns k → WasDialled b.log k.number k.host k.port
+    dialled_by k (same i isnt) = h.dialled k i
+    dialled_by k (other q i hit eq) = dialled_as b.log k q (ap conn_number eq ∙ number q) (ap (λ (x : Conn). x.host) eq ∙ host q) (ap (λ (x : Conn). x.port) eq ∙ port q) (h.dialled q i)
 
     distinct_by : (k : Conn) → Changed (is_conn n) f s.conns k → AreDistinct k.line
     distinct_by k (same i isnt) = h.distinct k i
@@ -431,6 +470,8 @@ ended_facts b n s may h = record {
   spelled = λ e i. h.spelled e (was e i).0;
   lined = λ k m i l. lined_by k m (at k i) l;
   placed = λ k e i j l. placed_by k e (at k i) (was e j).0 l;
+  hosts = λ k e i j l. hosts_by k e (at k i) (was e j).0 l;
+  dialled = λ k i. dialled_by k (at k i);
   distinct = λ k i. distinct_by k (at k i);
   closed = λ k i is. closed_by k (at k i) is;
   streams = λ k i isnt on. streams_by k (at k i) isnt on;
@@ -464,6 +505,12 @@ ended_facts b n s may h = record {
 
     placed_by : (k : Conn) (e : Exchange) → From (without_ask n) s.conns k → IsIn e s.exchanges → IsIn e.number k.line → e.place ≡ Some k.number
     placed_by k e r j l = h.placed r.was e r.there j (in_was k r e.number l).0 ∙ ap (λ m. Some m) (sym (number k r))
+
+    hosts_by : (k : Conn) (e : Exchange) → From (without_ask n) s.conns k → IsIn e s.exchanges → IsIn e.number k.line → GoesTo e k
+    hosts_by k e r j l = goes_with e k r.was (ap (λ (x : Conn). x.host) r.is) (ap (λ (x : Conn). x.port) r.is) (h.hosts r.was e r.there j (in_was k r e.number l).0)
+
+    dialled_by : (k : Conn) → From (without_ask n) s.conns k → WasDialled b.log k.number k.host k.port
+    dialled_by k r = dialled_as b.log k r.was (number k r) (ap (λ (x : Conn). x.host) r.is) (ap (λ (x : Conn). x.port) r.is) (h.dialled r.was r.there)
 
     distinct_by : (k : Conn) → From (without_ask n) s.conns k → AreDistinct k.line
     distinct_by k r = subst AreDistinct (sym (line k r)) (distinct_others n r.was.line (h.distinct r.was r.there))
@@ -535,8 +582,8 @@ distinct_push n (x ∷ ns) none d = ((λ i. by (in_push x ns n i)), distinct_pus
 
 -- one of which nothing was asked, of that place; each connection of the number is open, and none has it in its line
 pub pushed_facts : (b : Since) (n k : ℕ) (s : State) → n < s.next_exchange → ((e : Exchange) → IsIn e s.exchanges → e.number ≡ n → (e.asked ≡ 0) × (e.place ≡ Some k)) → ((j : Conn) → IsIn j s.conns → j.number ≡ k → j.is_closing ≡ false)
-    → ((j : Conn) → IsIn j s.conns → IsIn n j.line → ⊥) → FactsOf b s → FactsOf b (record s { conns = change (is_conn k) (λ j. record j { line = j.line ++ n ∷ [] }) s.conns })
-pushed_facts b n k s given fresh_one open_one no_line h = record {
+    → ((j : Conn) → IsIn j s.conns → IsIn n j.line → ⊥) → ((e : Exchange) (j : Conn) → IsIn e s.exchanges → e.number ≡ n → IsIn j s.conns → j.number ≡ k → GoesTo e j) → FactsOf b s → FactsOf b (record s { conns = change (is_conn k) (λ j. record j { line = j.line ++ n ∷ [] }) s.conns })
+pushed_facts b n k s given fresh_one open_one no_line goes h = record {
   low = h.low;
   apart = rise_change conn_number (is_conn k) longer (λ j. refl) s.conns h.apart;
   known = λ j i. known_by j (at j i);
@@ -545,6 +592,8 @@ pushed_facts b n k s given fresh_one open_one no_line h = record {
   spelled = h.spelled;
   lined = λ j m i l. lined_by j m (at j i) l;
   placed = λ j e i x l. placed_by j e (at j i) x l;
+  hosts = λ j e i x l. hosts_by j e (at j i) x l;
+  dialled = λ j i. dialled_by j (at j i);
   distinct = λ j i. distinct_by j (at j i);
   closed = λ j i is. closed_by j (at j i) is;
   streams = λ j i isnt on. streams_by j (at j i) isnt on;
@@ -581,6 +630,18 @@ pushed_facts b n k s given fresh_one open_one no_line h = record {
         by (inl r) = h.placed g e i x r ∙ ap (λ m. Some m) (sym (ap conn_number eq))
         by (inr is) = (fresh_one e x is).1 ∙ ap (λ m. Some m) (sym (ap conn_number eq ∙ same_number g.number k hit))
 
+    hosts_by : (j : Conn) (e : Exchange) → Changed (is_conn k) (λ g. record g { line = g.line ++ n ∷ [] }) s.conns j → IsIn e s.exchanges → IsIn e.number j.line → GoesTo e j
+    hosts_by j e (same i isnt) x l = h.hosts j e i x l
+    hosts_by j e (other g i hit eq) x l = goes_with e j g (ap (λ (y : Conn). y.host) eq) (ap (λ (y : Conn). y.port) eq) (by (in_line j g e.number eq l))
+      where
+        by : IsIn e.number g.line ⊎ (e.number ≡ n) → GoesTo e g
+        by (inl r) = h.hosts g e i x r
+        by (inr is) = goes e g x is i (same_number g.number k hit)
+
+    dialled_by : (j : Conn) → Changed (is_conn k) (λ g. record g { line = g.line ++ n ∷ [] }) s.conns j → WasDialled b.log j.number j.host j.port
+    dialled_by j (same i isnt) = h.dialled j i
+    dialled_by j (other g i hit eq) = subst (λ (x : Conn). WasDialled b.log x.number x.host x.port) (sym eq) (h.dialled g i)
+
     distinct_by : (j : Conn) → Changed (is_conn k) (λ g. record g { line = g.line ++ n ∷ [] }) s.conns j → AreDistinct j.line
     distinct_by j (same i isnt) = h.distinct j i
     distinct_by j (other g i hit eq) = subst (λ (x : Conn). AreDistinct x.line) (sym eq) (distinct_push n g.line (no_line g i) (h.distinct g i))
@@ -604,8 +665,8 @@ pushed_facts b n k s given fresh_one open_one no_line h = record {
         record { number = w.number; expected = ap (λ (x : Conn). b.firsts x.number) eq ∙ w.expected; first = ap (λ (x : Conn). first_of x.line) eq ∙ first_push n w.number g.line w.first; out = w.out }
 
 -- a connection that is new, of which nothing was asked
-pub conn_added : (b : Since) (s : State) (k : Conn) → s.top < k.number → k.line ≡ [] → k.answer ≡ None → asked k.number b.log ≡ [] → FactsOf b s → FactsOf b (record s { conns = s.conns ++ k ∷ []; top = k.number })
-conn_added b s k above none no_answer silent h = record {
+pub conn_added : (b : Since) (s : State) (k : Conn) → s.top < k.number → k.line ≡ [] → k.answer ≡ None → asked k.number b.log ≡ [] → WasDialled b.log k.number k.host k.port → FactsOf b s → FactsOf b (record s { conns = s.conns ++ k ∷ []; top = k.number })
+conn_added b s k above none no_answer silent now h = record {
   low = let a : b.low ≤ s.top = h.low in omega arith;
   apart = rise_push conn_number s.conns k h.apart (λ j i. let le : j.number ≤ s.top = h.known j i in omega arith);
   known = λ j i. known_by j (in_push j s.conns k i);
@@ -614,6 +675,8 @@ conn_added b s k above none no_answer silent h = record {
   spelled = h.spelled;
   lined = λ j m i l. lined_by j m (in_push j s.conns k i) l;
   placed = λ j e i x l. placed_by j e (in_push j s.conns k i) x l;
+  hosts = λ j e i x l. hosts_by j e (in_push j s.conns k i) x l;
+  dialled = λ j i. dialled_by j (in_push j s.conns k i);
   distinct = λ j i. distinct_by j (in_push j s.conns k i);
   closed = λ j i is. closed_by j (in_push j s.conns k i) is;
   streams = λ j i isnt on. streams_by j (in_push j s.conns k i) isnt on;
@@ -635,6 +698,14 @@ conn_added b s k above none no_answer silent h = record {
     placed_by : (j : Conn) (e : Exchange) → IsIn j s.conns ⊎ (j ≡ k) → IsIn e s.exchanges → IsIn e.number j.line → e.place ≡ Some j.number
     placed_by j e (inl i) x l = h.placed j e i x l
     placed_by j e (inr is) x l = absurd (not_in j e.number is l)
+
+    hosts_by : (j : Conn) (e : Exchange) → IsIn j s.conns ⊎ (j ≡ k) → IsIn e s.exchanges → IsIn e.number j.line → GoesTo e j
+    hosts_by j e (inl i) x l = h.hosts j e i x l
+    hosts_by j e (inr is) x l = absurd (not_in j e.number is l)
+
+    dialled_by : (j : Conn) → IsIn j s.conns ⊎ (j ≡ k) → WasDialled b.log j.number j.host j.port
+    dialled_by j (inl i) = h.dialled j i
+    dialled_by j (inr is) = subst (λ (x : Conn). WasDialled b.log x.number x.host x.port) (sym is) now
 
     distinct_by : (j : Conn) → IsIn j s.conns ⊎ (j ≡ k) → AreDistinct j.line
     distinct_by j (inl i) = h.distinct j i
@@ -700,6 +771,8 @@ facts_so b c s terms log low streams answers kept f = record {
   spelled = f.spelled;
   lined = f.lined;
   placed = f.placed;
+  hosts = f.hosts;
+  dialled = λ k i. subst (λ l. WasDialled l k.number k.host k.port) (sym log) (f.dialled k i);
   distinct = f.distinct;
   closed = f.closed;
   streams = λ k i isnt on. subst (λ t. Tells t c.log k.number (asked k.number c.log) s.exchanges k.line) (sym terms) (subst (λ l. Tells b.terms l k.number (asked k.number l) s.exchanges k.line) (sym log) (streams k i isnt on));

@@ -22,13 +22,14 @@ use Rattle.pp_laws.specs.Runs.{IsIn}
 use Rattle.pp_laws.proofs.Closings.{IsOwnLine}
 use Rattle.pp_laws.proofs.Lists.{Changed, in_change, in_find, in_map, one_of, other, same}
 use Rattle.pp_laws.proofs.Shrinks.{NoLine, Shrinks, lose_attempt-shrinks, lose_place-shrinks, no_line_shrunk, off, shrinks_each, shrinks_same}
-use Rattle.pp_laws.proofs.Sound.{conn_number}
+use Rattle.pp_laws.proofs.Sound.{conn_number, exchange_number}
 use Rattle.pp_laws.proofs.Tests.{number_same, same_number}
 use Rattle.pp_laws_bounds.proofs.Places.{HasRoom, on_room}
 use Rattle.pp_laws_passed.proofs.Same.{itself}
 use Rattle.pp_laws_passed.proofs.SameRows.{clear-same, swept-same}
 use Rattle.pp_laws_lines.proofs.Cases.{by_front, by_result, each_of, each_so, when, when_so}
 use Rattle.pp_laws_lines.proofs.Lined.{Lined, MayEnd, SameConn, conns_changed, conns_off, ended_facts, exchange_added, exchange_moved, exchanges_changed, exchanges_fewer, facts_of, lined, of_fresh, pushed_facts, still}
+use Rattle.pp_laws_lines.proofs.Hosts.{GoesTo, IsToHost, goes_as, goes_with, on_host}
 use Rattle.pp_laws_lines.proofs.Stands.{SameAsk, Since}
 
 pub clear-lined : {b : Since} (key : Bytes) (s : State) → Lined b s → Lined b (clear key s)
@@ -245,19 +246,32 @@ pub record IsReady (n : ℕ) (s : State) : Type 0 where
   pub no_line : NoLine n s
   pub given : n < s.next_exchange
 
-pub put_on-lined : {b : Since} (n k : ℕ) (s : State) → b.kept ≡ None → IsReady n s → ((j : Conn) → IsIn j s.conns → j.number ≡ k → j.is_closing ≡ false) → Lined b s → Lined b (put_on n k s)
+pub put_on-lined : {b : Since} (n k : ℕ) (s : State) → b.kept ≡ None → IsReady n s → ((j : Conn) → IsIn j s.conns → j.number ≡ k → j.is_closing ≡ false) → ((e : Exchange) (j : Conn) → IsIn e s.exchanges → e.number ≡ n → IsIn j s.conns → j.number ≡ k → GoesTo e j) → Lined b s
+    → Lined b (put_on n k s)
 unfolding put_on on_conn on_exchange
-put_on-lined {b} n k s none ready open_one h =
+put_on-lined {b} n k s none ready open_one goes h =
     lined (pushed_facts b n k (record s { exchanges = change (is_exchange n) (λ e. record e { place = Some k; asked = 0 }) s.exchanges }) ready.given (λ e i is. fresh_by e is (in_change (is_exchange n) (λ d. record d { place = Some k; asked = 0 }) e s.exchanges i)) open_one ready.no_line
+    (λ e j i is at number. goes_by e j is (in_change (is_exchange n) (λ d. record d { place = Some k; asked = 0 }) e s.exchanges i) at number)
     (exchange_moved b s n (λ e. record e { place = Some k; asked = 0 }) none (λ e. refl) (λ e. refl) ready.no_line (facts_of h)))
   where
     fresh_by : (e : Exchange) → e.number ≡ n → Changed (is_exchange n) (λ d. record d { place = Some k; asked = 0 }) s.exchanges e → (e.asked ≡ 0) × (e.place ≡ Some k)
     fresh_by e is (same i isnt) = let both : true ≡ false = sym (number_same n) ∙ ap (λ m. m == n) (sym is) ∙ isnt in absurd (cc both)
     fresh_by e is (other d i hit eq) = (ap (λ (x : Exchange). x.asked) eq, ap (λ (x : Exchange). x.place) eq)
 
+    goes_by : (e : Exchange) (j : Conn) → e.number ≡ n → Changed (is_exchange n) (λ d. record d { place = Some k; asked = 0 }) s.exchanges e → IsIn j s.conns → j.number ≡ k → GoesTo e j
+    goes_by e j is (same i isnt) at number = goes e j i is at number
+    goes_by e j is (other d i hit eq) at number = goes_as e d j (ap (λ (x : Exchange). x.key) eq) (goes d j i (same_number d.number n hit) at number)
+
 -- where there is room, it is open
 open_by : {b : Since} (s : State) (k : ℕ) → HasRoom s k → Lined b s → (j : Conn) → IsIn j s.conns → j.number ≡ k → j.is_closing ≡ false
 open_by s k room h j i is = ap (λ (x : Conn). x.is_closing) (one_of conn_number s.conns j room.conn (facts_of h).apart i room.there (is ∙ sym room.number)) ∙ room.is_open
+
+-- where one of its host is, it goes there
+host_by : {b : Since} (n k : ℕ) (e : Exchange) (s : State) → IsIn e s.exchanges → e.number ≡ n → IsToHost s e k → Lined b s → (d : Exchange) (j : Conn) → IsIn d s.exchanges → d.number ≡ n → IsIn j s.conns → j.number ≡ k → GoesTo d j
+host_by n k e s there number to h d j i is at at_k =
+    let it : d ≡ e = one_of exchange_number s.exchanges d e (facts_of h).rise i there (is ∙ sym number) in
+    let its : j ≡ to.conn = one_of conn_number s.conns j to.conn (facts_of h).apart at to.there (at_k ∙ sym to.number) in
+    goes_as d e j (ap (λ (x : Exchange). x.key) it) (goes_with e j to.conn (ap (λ (x : Conn). x.host) its) (ap (λ (x : Conn). x.port) its) to.goes)
 
 ready : {b : Since} (e : Exchange) (s : State) → IsIn e s.exchanges → e.place ≡ None → Lined b s → IsReady e.number s
 ready e s i none h = record {
@@ -273,8 +287,8 @@ unplaced_in : (o : Option Exchange) (e : Exchange) → option_and_then if_unplac
 unplaced_in None e is = absurd (cc is)
 unplaced_in (Some d) e is = let w = unplaced_by d e d.place refl is in (ap (λ x. Some x) w.0, subst (λ (x : Exchange). x.place ≡ None) w.0 w.1)
 
-unplaced_ready : {b : Since} (n : ℕ) (s : State) (e : Exchange) → option_and_then if_unplaced (exchange s n) ≡ Some e → Lined b s → IsReady n s × IsReady e.number s
-unplaced_ready {b} n s e is h = (subst (λ m. IsReady m s) (same_number e.number n there.1) it, it)
+unplaced_ready : {b : Since} (n : ℕ) (s : State) (e : Exchange) → option_and_then if_unplaced (exchange s n) ≡ Some e → Lined b s → IsReady n s × IsReady e.number s × IsIn e s.exchanges × (e.number ≡ n)
+unplaced_ready {b} n s e is h = (subst (λ m. IsReady m s) (same_number e.number n there.1) it, it, there.0, same_number e.number n there.1)
   where
     w : (exchange s n ≡ Some e) × (e.place ≡ None)
     w = unplaced_in (exchange s n) e is
@@ -285,22 +299,27 @@ unplaced_ready {b} n s e is h = (subst (λ m. IsReady m s) (same_number e.number
     it : IsReady e.number s
     it = ready e s there.0 w.1 h
 
--- the state behind it, and the one for which a dial is waited for
+-- the state behind it, and the one for which a dial is waited for: it is there
 pub record Settles (b : Since) (p : Placement) : Type 0 where
   pub state : Lined b p.state
   pub dial : (e : Exchange) → p.pause ≡ WaitsDial e → IsReady e.number p.state
+  pub there : (e : Exchange) → p.pause ≡ WaitsDial e → IsIn e p.state.exchanges
 
-place_by : {b : Since} (n : ℕ) (e : Exchange) (ns : List ℕ) (s : State) (wanted : Placed) → b.kept ≡ None → place_for s e ≡ wanted → IsReady n s → IsReady e.number s → ((t : State) → Lined b t → Settles b (place_each ns t)) → Lined b s
+place_by : {b : Since} (n : ℕ) (e : Exchange) (ns : List ℕ) (s : State) (wanted : Placed) → b.kept ≡ None → place_for s e ≡ wanted → IsReady n s → IsReady e.number s → IsIn e s.exchanges → e.number ≡ n → ((t : State) → Lined b t → Settles b (place_each ns t)) → Lined b s
     → Settles b (elim wanted as (λ c. Placement) [
       | On k ↦ place_each ns (put_on n k s)
       | Wait ↦ place_each ns s
       | Dial ↦ record { state = s; pause = WaitsDial e }
       | CloseThenDial k ↦ record { state = s; pause = WaitsDrop k e }
     ])
-place_by n e ns s (On k) none is its_ready its rest h = rest (put_on n k s) (put_on-lined n k s none its_ready (open_by s k (on_room s e k is) h) h)
-place_by n e ns s Wait none is its_ready its rest h = rest s h
-place_by n e ns s Dial none is its_ready its rest h = record { state = h; dial = λ d eq. let one : e ≡ d = cc in subst (λ (x : Exchange). IsReady x.number s) one its }
-place_by n e ns s (CloseThenDial k) none is its_ready its rest h = record { state = h; dial = λ d eq. absurd (cc eq) }
+place_by n e ns s (On k) none is its_ready its there number rest h = rest (put_on n k s) (put_on-lined n k s none its_ready (open_by s k (on_room s e k is) h) (host_by n k e s there number (on_host s e k is) h) h)
+place_by n e ns s Wait none is its_ready its there number rest h = rest s h
+place_by n e ns s Dial none is its_ready its there number rest h = record {
+  state = h;
+  dial = λ d eq. let one : e ≡ d = cc in subst (λ (x : Exchange). IsReady x.number s) one its;
+  there = λ d eq. let one : e ≡ d = cc in subst (λ (x : Exchange). IsIn x s.exchanges) one there;
+}
+place_by n e ns s (CloseThenDial k) none is its_ready its there number rest h = record { state = h; dial = λ d eq. absurd (cc eq); there = λ d eq. absurd (cc eq) }
 
 place_at : {b : Since} (unplaced : Option Exchange) (p : Placement) (q : Exchange → Placement) → Settles b p → ((e : Exchange) → unplaced ≡ Some e → Settles b (q e))
     → Settles b (elim unplaced as (λ c. Placement) [ None ↦ p | Some e ↦ q e ])
@@ -308,10 +327,10 @@ place_at None p q hp hq = hp
 place_at (Some e) p q hp hq = hq e refl
 
 place_each-lined : {b : Since} (ns : List ℕ) (s : State) → b.kept ≡ None → Lined b s → Settles b (place_each ns s)
-place_each-lined [] s none h = record { state = h; dial = λ e is. absurd (cc is) }
+place_each-lined [] s none h = record { state = h; dial = λ e is. absurd (cc is); there = λ e is. absurd (cc is) }
 place_each-lined (n ∷ ns) s none h =
     place_at (option_and_then if_unplaced (exchange s n)) _ _ (place_each-lined ns s none h)
-    (λ e is. let w = unplaced_ready n s e is h in place_by n e ns s (place_for s e) none refl w.0 w.1 (λ t ht. place_each-lined ns t none ht) h)
+    (λ e is. let w = unplaced_ready n s e is h in place_by n e ns s (place_for s e) none refl w.0 w.1 w.2 w.3 (λ t ht. place_each-lined ns t none ht) h)
 
 pub placing-lined : {b : Since} (s : State) → b.kept ≡ None → Lined b s → Settles b (placing s)
 placing-lined s none h = place_each-lined _ s none h

@@ -1,8 +1,9 @@
 -- Each happening keeps the lines, but an ask, and what is read of an origin.
-use Rattle.std.proofs.Common.{◌≡◌, ◌⊎◌, refl, ℕ, ◌+◌, ◌<◌, ◌≤◌, Bool, true, false, not, List, [], ◌∷◌, ◌++◌, map, length, Option, Some, None, inl, inr, sym, subst, ap, ◌∙◌, le_trans, le_of_lt, le_refl, arith}
+use Rattle.std.proofs.Common.{◌≡◌, ◌⊎◌, refl, ℕ, ◌+◌, ◌<◌, ◌≤◌, Bool, true, false, not, ◌&&◌, List, [], ◌∷◌, ◌++◌, map, length, Option, Some, None, inl, inr, sym, subst, ap, ◌∙◌, le_trans, le_of_lt, le_refl, arith}
 use Rattle.pp_conf.specs.Conf.{Settings}
 use Rattle.pp_conf.specs.Words.{reading_of}
 use Rattle.pp_world.specs.Files.{Files}
+use Rattle.pp_world.specs.Log.{Log}
 use Rattle.pp_world.specs.Streams.{asked as asked_on}
 use Rattle.pp_world.specs.declared.happening.Happening.TheVariants.{Woke, Waits, Clock, Opened, CanRead, CanWrite, Heard, HungUp, Said, Shut, Dialled, Undialled, Reached, Ended, Broke, Asked, Got, Dropped, NoneYet, Began, Did, Unread, Noted, Rooted, Listed, Listens, Configured, Printed, Stopped}
 use Rattle.pp_world.specs.declared.happening.Happening.{Happening}
@@ -10,34 +11,36 @@ use Rattle.pp_world.specs.declared.note.Remark.TheVariants.{Taken, Cut, Kept, Go
 use Rattle.pp_world.specs.declared.note.Decision.{Decision}
 use Rattle.pp_world.specs.declared.note.Remark.{Remark}
 use Rattle.pp_world.specs.declared.op.DiskOp.{DiskOp}
-use Rattle.pp_law.specs.After.{new_conn, event, opened, owing, reached, paid, said, gone, take_decision, evicted, brings_to, dropping_body, refused_row, leave_memory, forgotten_by, noted, begun_op, ended_op, unread, shut, dialled, refused_dial, undialled, out, dropped, changed}
+use Rattle.pp_law.specs.After.{new_conn, event, opened, owing, reached, paid, said, gone, take_decision, evicted, brings_to, dropping_body, refused_row, leave_memory, forgotten_by, noted, begun_op, ended_op, unread, shut, dialled, refused_dial, undialled, out, dropped, changed, after}
 use Rattle.pp_law.specs.Asking.{is_writing, hear, hang_up}
-use Rattle.pp_law.specs.Connections.{client, conn, is_conn, may_ask_again, placing, put_on, lose_attempt, Placement, Pause, AllPlaced, WaitsDial, WaitsDrop}
+use Rattle.pp_law.specs.Connections.{client, conn, is_conn, may_ask_again, on_conn, on_exchange, placing, put_on, lose_attempt, Placement, Pause, AllPlaced, WaitsDial, WaitsDrop}
 use Rattle.pp_law.specs.Hearing.{heard_by}
 use Rattle.pp_law.specs.Leaving.{Leaving, ForAnother, ForMemory, BeforeDecision, leaving_as}
 use Rattle.pp_law.specs.Lists.{Bytes}
-use Rattle.pp_law.specs.Opening.{woken, begun as opening_begun, with_settings, settings_in, are_texts, names_file, is_opening}
-use Rattle.pp_law.specs.Permits.{IsPermitted, is_permitted, permits, permits_dial, is_new_number, may_open}
-use Rattle.pp_law.specs.Phases.{come_to, due_victim, ending, is_awaiting}
+use Rattle.pp_law.specs.Opening.{woken, begun as opening_begun, with_settings, settings_in, are_texts, names_file, is_at, is_opening}
+use Rattle.pp_law.specs.Permits.{IsPermitted, is_permitted, permits, permits_dial, is_dial_of, is_new_number, may_dial, may_open}
+use Rattle.pp_law.specs.Phases.{come_to, due_victim, ending, has_closings, is_awaiting}
 use Rattle.pp_law.specs.Replies.{said_by}
 use Rattle.pp_law.specs.Served.{accepts}
 use Rattle.pp_law.specs.State.{State, Conn, Exchange, Instance, IsRooted, IsListed, IsListening, IsWoken, Handling, Evicting, Keeping, Connecting, DecidingAgain, Owed, ReadOf, WriteTo}
 use Rattle.pp_law.specs.Table.{forget}
 use Rattle.pp_laws.specs.Numbers.{AreRising}
 use Rattle.pp_laws.specs.Runs.{IsIn}
-use Rattle.pp_laws.proofs.Lists.{in_find}
+use Rattle.pp_laws.proofs.Lists.{in_find, one_of}
 use Rattle.pp_laws.proofs.Shrinks.{lose_attempt-shrinks, no_line_shrunk}
 use Rattle.pp_laws.proofs.Sound.{conn_number, exchange_number}
 use Rattle.pp_laws.proofs.Tests.{below, first_holds, second_holds}
 use Rattle.pp_laws.proofs.Tops.{come_to-top, placing-top}
 use Rattle.pp_laws_passed.proofs.Same.{Same, alike, itself}
 use Rattle.pp_laws_passed.proofs.SameRows.{begin_in_opening-same, begin_in_turn-same, close_name-same, configured-same, drop_chunk-same, end_op-same, forget-same, load-same, lose_in_opening-same, note_gone-same, note_kept-same, opened_to-same}
+use Rattle.pp_laws_lines.specs.Hosts.{WasDialled}
 use Rattle.pp_laws_lines.proofs.Cases.{each_of, each_so, when}
 use Rattle.pp_laws_lines.proofs.Lined.{FactsOf, IsPlain, Lined, conn_added, conns_fewer, exchanges_changed, facts_of, lined, still}
 use Rattle.pp_laws_lines.proofs.LinedAsks.{Settles, close_client-lined, end_exchange-lined, fill-lined, lose_attempt-lined, on_client-lined, on_conn-lined, placing-lined, put_on-lined}
 use Rattle.pp_laws_lines.proofs.LinedHeads.{ended-lined}
 use Rattle.pp_laws_lines.proofs.LinedReplies.{begin_replies-lined, decided-lined, end_replies-lined}
 use Rattle.pp_laws_lines.proofs.LinedTurns.{come_to-lined, come_to_decide-lined, deciding-lined, in_phase-lined, regained-lined, rest_with-lined, tick-lined, touch-lined, use_said-lined}
+use Rattle.pp_laws_lines.proofs.Hosts.{GoesTo, dial_for, goes_as, goes_with}
 use Rattle.pp_laws_lines.proofs.Stands.{Since}
 
 event-lined : {b : Since} (s : State) → Lined b s → Lined b (event s)
@@ -50,7 +53,7 @@ owing-lined owed n s h = lined (facts_of (touch-lined n s h))
 
 reached-lined : {b : Since} (n : ℕ) (s : State) → Lined b s → Lined b (reached n s)
 unfolding reached
-reached-lined n s h = touch-lined n _ (on_conn-lined n (λ k. record k { is_reached = true }) s (λ k. record { number = refl; line = refl; answer = inl refl; closing = refl }) h)
+reached-lined n s h = touch-lined n _ (on_conn-lined n (λ k. record k { is_reached = true }) s (λ k. record { number = refl; host = refl; port = refl; line = refl; answer = inl refl; closing = refl }) h)
 
 pub paid-lined : {b : Since} (s : State) → Lined b s → Lined b (paid s)
 unfolding paid
@@ -109,9 +112,9 @@ dropped-lined : {b : Since} (n : ℕ) (s : State) → IsPlain b → Lined b s �
 unfolding dropped
 dropped-lined n s p h = each_of (conn s n) h (λ k. when k.is_closing (out-lined n s h) (out-lined n _ (placing-lined s p.kept h).state))
 
-dialled-lined : {b : Since} (n : ℕ) (host : Bytes) (port : ℕ) (q : Placement) → IsPlain b → q.state.top < n → asked_on n b.log ≡ [] → Settles b q → Lined b (dialled n host port q)
+dialled-lined : {b : Since} (n : ℕ) (host : Bytes) (port : ℕ) (q : Placement) → IsPlain b → q.state.top < n → asked_on n b.log ≡ [] → is_dial_of q.pause host port ≡ true → WasDialled b.log n host port → Settles b q → Lined b (dialled n host port q)
 unfolding dialled
-dialled-lined {b} n host port q p above silent w = by q.pause refl
+dialled-lined {b} n host port q p above silent dial now w = by q.pause refl
   where
     added : State
     added = record q.state { conns = q.state.conns ++ new_conn n host port q.state.clock ∷ []; top = n }
@@ -119,7 +122,7 @@ dialled-lined {b} n host port q p above silent w = by q.pause refl
     by : (pause : Pause) → q.pause ≡ pause → Lined b (elim pause as (λ x. State) [ AllPlaced ↦ q.state | WaitsDrop k e ↦ q.state | WaitsDial e ↦ put_on e.number n added ])
     by AllPlaced is = w.state
     by (WaitsDrop k e) is = w.state
-    by (WaitsDial e) is = put_on-lined e.number n added p.kept (record { no_line = no_line; given = (w.dial e is).given }) open_one (lined (conn_added b q.state (new_conn n host port q.state.clock) above refl refl silent (facts_of w.state)))
+    by (WaitsDial e) is = put_on-lined e.number n added p.kept (record { no_line = no_line; given = (w.dial e is).given }) open_one goes (lined (conn_added b q.state (new_conn n host port q.state.clock) above refl refl silent now (facts_of w.state)))
       where
         split : (k : Conn) (ks : List Conn) → IsIn k (ks ++ new_conn n host port q.state.clock ∷ []) → IsIn k ks ⊎ (k ≡ new_conn n host port q.state.clock)
         split k [] (inl eq) = inr eq
@@ -140,6 +143,18 @@ dialled-lined {b} n host port q p above silent w = by q.pause refl
             at : IsIn k q.state.conns ⊎ (k ≡ new_conn n host port q.state.clock) → k.is_closing ≡ false
             at (inl j) = let le : k.number ≤ q.state.top = (facts_of w.state).known k j in let none : ⊥ = omega arith in absurd none
             at (inr eq) = ap (λ (x : Conn). x.is_closing) eq
+
+        goes : (d : Exchange) (k : Conn) → IsIn d added.exchanges → d.number ≡ e.number → IsIn k added.conns → k.number ≡ n → GoesTo d k
+        goes d k j is_e i number = at (split k q.state.conns i)
+          where
+            it : d ≡ e
+            it = one_of exchange_number q.state.exchanges d e (facts_of w.state).rise j (w.there e is) is_e
+
+            at : IsIn k q.state.conns ⊎ (k ≡ new_conn n host port q.state.clock) → GoesTo d k
+            at (inl l) = let le : k.number ≤ q.state.top = (facts_of w.state).known k l in let none : ⊥ = omega (arith, le, number, above) in absurd none
+            at (inr eq) =
+                goes_as d e k (ap (λ (x : Exchange). x.key) it)
+                (goes_with e k (new_conn n host port q.state.clock) (ap (λ (x : Conn). x.host) eq) (ap (λ (x : Conn). x.port) eq) (dial_for e host port (sym (ap (λ (x : Pause). is_dial_of x host port) is) ∙ dial)))
 
 gone-lined : {b : Since} (is_clean : Bool) (k : ℕ) (s : State) → IsPlain b → Lined b s → Lined b (gone is_clean k s)
 unfolding gone
@@ -172,6 +187,8 @@ opened-lined {b} n s above h = lined (record {
   spelled = f.spelled;
   lined = f.lined;
   placed = f.placed;
+  hosts = f.hosts;
+  dialled = f.dialled;
   distinct = f.distinct;
   closed = f.closed;
   streams = f.streams;
@@ -197,6 +214,8 @@ nobody b s low none exchanges conns = lined (record {
   spelled = λ e i. absurd (subst (λ es. IsIn e es) exchanges i);
   lined = λ k m i. absurd (subst (λ ks. IsIn k ks) conns i);
   placed = λ k e i. absurd (subst (λ ks. IsIn k ks) conns i);
+  hosts = λ k e i. absurd (subst (λ ks. IsIn k ks) conns i);
+  dialled = λ k i. absurd (subst (λ ks. IsIn k ks) conns i);
   distinct = λ k i. absurd (subst (λ ks. IsIn k ks) conns i);
   closed = λ k i. absurd (subst (λ ks. IsIn k ks) conns i);
   streams = λ k i. absurd (subst (λ ks. IsIn k ks) conns i);
@@ -251,6 +270,40 @@ dialled_above : (s : State) (n : ℕ) (host : Bytes) (port : ℕ) → IsPermitte
 unfolding is_permitted permits
 dialled_above s n host port is = below s.top n (first_holds (is_new_number s n) (permits_dial s host port) (unhampered s.made_room_for _ is))
 
+chosen : (t u : Bool) → (elim t as (λ c. Bool) [ true ↦ u | false ↦ false ]) ≡ true → u ≡ true
+chosen true u is = is
+chosen false u is = absurd (cc is)
+
+third_holds : (x y z : Bool) → (not x && not y && z) ≡ true → z ≡ true
+third_holds true y z is = absurd (cc is)
+third_holds false true z is = absurd (cc is)
+third_holds false false z is = is
+
+dialled_for : (s : State) (n : ℕ) (host : Bytes) (port : ℕ) → IsPermitted s (Dialled n host port) → is_dial_of (placing (come_to Connecting s)).pause host port ≡ true
+unfolding is_permitted permits
+dialled_for s n host port is =
+    let t : State = come_to Connecting s in
+    third_holds t.is_stopped (has_closings t) (is_dial_of (placing t).pause host port)
+    (chosen (is_at Connecting t) (may_dial t host port) (second_holds (is_new_number s n) (permits_dial s host port) (unhampered s.made_room_for _ is)))
+
+dialled_top : (n : ℕ) (host : Bytes) (port : ℕ) (q : Placement) → is_dial_of q.pause host port ≡ true → (dialled n host port q).top ≡ n
+unfolding dialled put_on on_conn on_exchange
+dialled_top n host port q is = by q.pause is
+  where
+    by : (pause : Pause) → is_dial_of pause host port ≡ true → (elim pause as (λ c. State) [
+      | AllPlaced ↦ q.state
+      | WaitsDrop k e ↦ q.state
+      | WaitsDial e ↦ put_on e.number n (record q.state { conns = q.state.conns ++ new_conn n host port q.state.clock ∷ []; top = n })
+    ]).top ≡ n
+    by AllPlaced at = absurd (cc at)
+    by (WaitsDrop k e) at = absurd (cc at)
+    by (WaitsDial e) at = refl
+
+-- its number is new, and the last that was given
+pub dialled_new : (s : State) (n : ℕ) (host : Bytes) (port : ℕ) → IsPermitted s (Dialled n host port) → (s.top < n) × ((after s (Dialled n host port)).top ≡ n)
+unfolding changed
+dialled_new s n host port is = (dialled_above s n host port is, dialled_top n host port (placing (come_to Connecting s)) (dialled_for s n host port is))
+
 -- ---- all
 
 -- nothing is asked of an origin, and nothing of one is read
@@ -259,36 +312,40 @@ IsQuiet (Asked n bytes) = ⊥
 IsQuiet (Got n bytes) = ⊥
 IsQuiet h = Unit {0}
 
-pub changed-lined : {b : Since} (s : State) (happening : Happening) → IsQuiet happening → IsPlain b → b.low ≡ s.top → ((n : ℕ) → s.top < n → asked_on n b.log ≡ []) → IsPermitted s happening → Lined b s → Lined b (changed s happening)
+-- the log ends with it
+abbrev pub EndsWith : Log → Happening → Type 0
+EndsWith log happening = (front : Log) × (front ++ happening ∷ [] ≡ log)
+
+pub changed-lined : {b : Since} (s : State) (happening : Happening) → IsQuiet happening → IsPlain b → b.low ≡ s.top → ((n : ℕ) → s.top < n → asked_on n b.log ≡ []) → EndsWith b.log happening → IsPermitted s happening → Lined b s → Lined b (changed s happening)
 unfolding changed
-changed-lined s (Woke image) nothing p low silent is h = woken-lined image s p (subst (λ n. n ≤ s.top) (sym low) (le_refl s.top))
-changed-lined s (Waits w) nothing p low silent is h = rest_with-lined w _ (ending-lined s p h)
-changed-lined s (Clock seconds) nothing p low silent is h = event-lined _ (tick-lined seconds s p h)
-changed-lined s (Opened m) nothing p low silent is h = event-lined _ (opened-lined m s (opened_above s m is) h)
-changed-lined s (CanRead m) nothing p low silent is h = event-lined _ (owing-lined (ReadOf m) m s h)
-changed-lined s (CanWrite m) nothing p low silent is h = event-lined _ (owing-lined (WriteTo m) m s h)
-changed-lined s (Heard c bytes) nothing p low silent is h = paid-lined _ (hear-lined c bytes s h)
-changed-lined s (HungUp c) nothing p low silent is h = paid-lined _ (hang_up-lined c s h)
-changed-lined s (Said c offered bytes) nothing p low silent is h = paid-lined _ (said-lined c (length bytes) s h)
-changed-lined s (Shut c) nothing p low silent is h = shut-lined c _ (come_to-lined Connecting s p h)
-changed-lined s (Dialled m host port) nothing p low silent is h =
+changed-lined s (Woke image) nothing p low silent last is h = woken-lined image s p (subst (λ n. n ≤ s.top) (sym low) (le_refl s.top))
+changed-lined s (Waits w) nothing p low silent last is h = rest_with-lined w _ (ending-lined s p h)
+changed-lined s (Clock seconds) nothing p low silent last is h = event-lined _ (tick-lined seconds s p h)
+changed-lined s (Opened m) nothing p low silent last is h = event-lined _ (opened-lined m s (opened_above s m is) h)
+changed-lined s (CanRead m) nothing p low silent last is h = event-lined _ (owing-lined (ReadOf m) m s h)
+changed-lined s (CanWrite m) nothing p low silent last is h = event-lined _ (owing-lined (WriteTo m) m s h)
+changed-lined s (Heard c bytes) nothing p low silent last is h = paid-lined _ (hear-lined c bytes s h)
+changed-lined s (HungUp c) nothing p low silent last is h = paid-lined _ (hang_up-lined c s h)
+changed-lined s (Said c offered bytes) nothing p low silent last is h = paid-lined _ (said-lined c (length bytes) s h)
+changed-lined s (Shut c) nothing p low silent last is h = shut-lined c _ (come_to-lined Connecting s p h)
+changed-lined s (Dialled m host port) nothing p low silent last is h =
     let above : s.top < m = dialled_above s m host port is in
-    dialled-lined m host port (placing (come_to Connecting s)) p (subst (λ n. n < m) (sym (placing-top (come_to Connecting s) ∙ come_to-top Connecting s)) above) (silent m above) (placing-lined _ p.kept (come_to-lined Connecting s p h))
-changed-lined s (Undialled host port) nothing p low silent is h = undialled-lined (placing (come_to Connecting s)) p.kept (placing-lined _ p.kept (come_to-lined Connecting s p h))
-changed-lined s (Reached k) nothing p low silent is h = event-lined _ (reached-lined k s h)
-changed-lined s (Ended k) nothing p low silent is h = paid-lined _ (gone-lined true k s p h)
-changed-lined s (Broke k) nothing p low silent is h = paid-lined _ (gone-lined false k _ p (event-lined s h))
-changed-lined s (Asked k bytes) nothing p low silent is h = absurd nothing
-changed-lined s (Got k bytes) nothing p low silent is h = absurd nothing
-changed-lined s (Dropped k) nothing p low silent is h = dropped-lined k _ p (come_to-lined Connecting s p h)
-changed-lined s (NoneYet m) nothing p low silent is h = paid-lined s h
-changed-lined s (Began op) nothing p low silent is h = begun_op-lined op s p h
-changed-lined s (Did op ok) nothing p low silent is h = ended_op-lined op ok s h
-changed-lined s (Unread name) nothing p low silent is h = unread-lined name s h
-changed-lined s (Noted remark) nothing p low silent is h = noted-lined remark s p h
-changed-lined s (Rooted folder) nothing p low silent is h = still (opened_to-same IsRooted true s (itself s)) h
-changed-lined s (Listed ok) nothing p low silent is h = still (opened_to-same IsListed ok s (itself s)) h
-changed-lined s (Listens port ok) nothing p low silent is h = still (opened_to-same IsListening ok s (itself s)) h
-changed-lined s (Configured file text) nothing p low silent is h = still (configured-same text s (itself s)) h
-changed-lined s (Printed text) nothing p low silent is h = h
-changed-lined s Stopped nothing p low silent is h = event-lined _ (lined (facts_of h))
+    dialled-lined m host port (placing (come_to Connecting s)) p (subst (λ n. n < m) (sym (placing-top (come_to Connecting s) ∙ come_to-top Connecting s)) above) (silent m above) (dialled_for s m host port is) (record { front = last.0; behind = []; parts = last.1 }) (placing-lined _ p.kept (come_to-lined Connecting s p h))
+changed-lined s (Undialled host port) nothing p low silent last is h = undialled-lined (placing (come_to Connecting s)) p.kept (placing-lined _ p.kept (come_to-lined Connecting s p h))
+changed-lined s (Reached k) nothing p low silent last is h = event-lined _ (reached-lined k s h)
+changed-lined s (Ended k) nothing p low silent last is h = paid-lined _ (gone-lined true k s p h)
+changed-lined s (Broke k) nothing p low silent last is h = paid-lined _ (gone-lined false k _ p (event-lined s h))
+changed-lined s (Asked k bytes) nothing p low silent last is h = absurd nothing
+changed-lined s (Got k bytes) nothing p low silent last is h = absurd nothing
+changed-lined s (Dropped k) nothing p low silent last is h = dropped-lined k _ p (come_to-lined Connecting s p h)
+changed-lined s (NoneYet m) nothing p low silent last is h = paid-lined s h
+changed-lined s (Began op) nothing p low silent last is h = begun_op-lined op s p h
+changed-lined s (Did op ok) nothing p low silent last is h = ended_op-lined op ok s h
+changed-lined s (Unread name) nothing p low silent last is h = unread-lined name s h
+changed-lined s (Noted remark) nothing p low silent last is h = noted-lined remark s p h
+changed-lined s (Rooted folder) nothing p low silent last is h = still (opened_to-same IsRooted true s (itself s)) h
+changed-lined s (Listed ok) nothing p low silent last is h = still (opened_to-same IsListed ok s (itself s)) h
+changed-lined s (Listens port ok) nothing p low silent last is h = still (opened_to-same IsListening ok s (itself s)) h
+changed-lined s (Configured file text) nothing p low silent last is h = still (configured-same text s (itself s)) h
+changed-lined s (Printed text) nothing p low silent last is h = h
+changed-lined s Stopped nothing p low silent last is h = event-lined _ (lined (facts_of h))

@@ -18,7 +18,7 @@ use Rattle.pp_law.specs.Connections.{conn, exchange, is_conn, is_for, is_outstan
 use Rattle.pp_law.specs.Lists.{Bytes, change, is_some_with}
 use Rattle.pp_law.specs.OwnHeads.{key_of, span_to_come, tell, use_body, drop_answer, useless, times_for, settle_on, may_refresh, settle_known, known_version, settle, may_join, names_version, nothing_to_come, settle_unchanged, unchanged, is_of_another, forbids_sharing, not_shared, not_modified, clears_row, is_private_part, is_widened, relayed, relay_head, other_head, other_part, own_head, is_bound, lacks_next, count_elsewhere, part_head, filling_head, version_in, is_wrong_head, join_bound, moved_on}
 use Rattle.pp_law.specs.Passing.{pour, poured, passed_by}
-use Rattle.pp_law.specs.Responses.{skipping, skip_body, rested, close_this, may_go_on, finish, bad_response, bad_head, by_aim, asks_head, answer_with, answered_by, end_if_empty, begin_answer, answer_for, head_came, Piece, is_early, with_unread, head_piece, deliver, payload_of, body_piece_of, body_piece, next_piece, got, is_whole_at_end, finish_first, ended, bring_row}
+use Rattle.pp_law.specs.Responses.{skipping, skip_body, rested, close_this, may_go_on, finish, bad_response, bad_head, by_aim, asks_head, answer_with, answered_by, end_if_empty, begin_answer, answer_for, head_came, Piece, is_early, with_unread, head_piece, deliver, payload_of, body_piece_of, body_piece, next_piece, got, is_whole_at_end, finish_first, ended}
 use Rattle.pp_law.specs.Stages.{bound_of}
 use Rattle.pp_law.specs.State.{State, Aim, Through, Own, Filling, Answer, Body, Joining, Dropping, Brought, Useless, Joins, Passes, TooWide, Conn, Exchange, Bound}
 use Rattle.pp_law.specs.Table.{row}
@@ -215,7 +215,7 @@ middle true false false is = absurd (cc is)
 middle false c d is = absurd (cc is)
 
 rested_same : (head : Response) (k : Conn) → SameConn (rested head k) k
-rested_same head k = record { number = refl; line = refl; answer = inr refl; closing = refl }
+rested_same head k = record { number = refl; host = refl; port = refl; line = refl; answer = inr refl; closing = refl }
 
 finish-lined : {b : Since} (k : Conn) (e : Exchange) (a : Answer) (s : State) → IsPlain b → e.asked ≡ length e.text → ((j : Conn) → IsIn j s.conns → IsIn e.number j.line → j.number ≡ k.number) → Lined (watching b k.number e) s → Lined b (finish k e a s)
 unfolding finish on_conn
@@ -316,7 +316,7 @@ module _ {b : Since} (k : Conn) (e : Exchange) (s : State) (p : IsPlain b) (ther
       u = by_aim e head rule t
 
       plain_t : Lined b t
-      plain_t = lined (conns_answered b s k.number (answered_by a) (λ j. refl) (λ j. refl) (λ j. refl) heads (facts_of h))
+      plain_t = lined (conns_answered b s k.number (answered_by a) (λ j. refl) (λ j. refl) (λ j. refl) (λ j. refl) (λ j. refl) heads (facts_of h))
 
       plain_u : Lined b u
       plain_u = by_aim-lined e head rule t plain_t
@@ -358,7 +358,7 @@ piece_when true x y hx hy = hx refl
 piece_when false x y hx hy = hy refl
 
 with_unread-lined : {b : Since} (k : Conn) (bytes : Bytes) (s : State) → Lined b s → Lined b (on_conn k.number (with_unread bytes) s)
-with_unread-lined k bytes s h = on_conn-lined k.number (with_unread bytes) s (λ j. record { number = refl; line = refl; answer = inl refl; closing = refl }) h
+with_unread-lined k bytes s h = on_conn-lined k.number (with_unread bytes) s (λ j. record { number = refl; host = refl; port = refl; line = refl; answer = inl refl; closing = refl }) h
 
 head_piece_by : {b : Since} (k : Conn) (bytes : Bytes) (s : State) (read : Read Response) → IsPlain b → IsIn k s.conns → k.is_closing ≡ false → is_early s k ≡ false → b.firsts k.number ≡ first_of k.line → Lined b s
     → Lined b (elim read as (λ c. Piece) [
@@ -449,7 +449,7 @@ body_piece-lined {b} k a bytes s p there has h = by (front_of_line s k) refl
             (ap (λ (x : Conn). x.is_closing) it ∙ open_answered k a s there has h, (facts_of ht).answers j a i (ap (λ (x : Conn). x.answer) it ∙ has) (λ is. let both : None ≡ Some j.number = sym p.but ∙ is in cc both))
 
         going : Lined b (on_conn k.number (λ i. record i { answer = Some (record a { raw = a.raw ++ bytes }) }) t)
-        going = lined (conns_answered b t k.number (λ i. record i { answer = Some (record a { raw = a.raw ++ bytes }) }) (λ j. refl) (λ j. refl) (λ j. refl) heads (facts_of ht))
+        going = lined (conns_answered b t k.number (λ i. record i { answer = Some (record a { raw = a.raw ++ bytes }) }) (λ j. refl) (λ j. refl) (λ j. refl) (λ j. refl) (λ j. refl) heads (facts_of ht))
 
         at : (o : Outcome) → Lined b (elim o as (λ c. Piece) [
           | Going ↦ record { state = on_conn k.number (λ i. record i { answer = Some (record a { raw = a.raw ++ bytes }) }) t; rest = [] }

@@ -98,7 +98,7 @@ deciding-lined s p h = in_phase-lined Deciding _ (come_to_decide-lined s p h)
 -- ---- marks, and the clock
 
 marked : (now : ℕ) (k : Conn) → SameConn (marked_conn now k) k
-marked now k = record { number = refl; line = refl; answer = inl refl; closing = refl }
+marked now k = record { number = refl; host = refl; port = refl; line = refl; answer = inl refl; closing = refl }
 
 pub touch-lined : {b : Since} (n : ℕ) (s : State) → Lined b s → Lined b (touch n s)
 unfolding touch
@@ -150,7 +150,7 @@ rested_same s e = by (bound_of e)
 pub rest_with-lined : {b : Since} (w : Wants) (s : State) → Lined b s → Lined b (rest_with w s)
 unfolding rest_with
 rest_with-lined {b} w s h =
-    lined (exchanges_mapped b (record s { conns = map (rested_conn s w) s.conns }) (rested_exchange s) (rested_same s) (conns_mapped b s (rested_conn s w) (λ k. record { number = refl; line = refl; answer = inl refl; closing = refl }) (facts_of h)))
+    lined (exchanges_mapped b (record s { conns = map (rested_conn s w) s.conns }) (rested_exchange s) (rested_same s) (conns_mapped b s (rested_conn s w) (λ k. record { number = refl; host = refl; port = refl; line = refl; answer = inl refl; closing = refl }) (facts_of h)))
 
 -- ---- what clients wait for and use
 

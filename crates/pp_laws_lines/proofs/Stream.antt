@@ -1,4 +1,4 @@
--- The law: what was asked on a connection is whole asks of its line, one behind the other, and the front of one more.
+-- The laws: what was asked on a connection is whole asks of its line, one behind the other, and the front of one more; and its line goes where it was dialled to.
 use Rattle.std.proofs.Common.{◌≡◌, ◌⊎◌, refl, ℕ, zero, suc, ◌+◌, ◌-◌, ◌<◌, ◌≤◌, Bool, true, false, not, ◌==◌, List, [], ◌∷◌, ◌++◌, find, cond, take, drop, length, min, if◌then◌else◌, Option, Some, None, inl, inr, sym, subst, ap, ◌∙◌, append_assoc, length-append, length-take, le_refl, le_trans, lt_of_le_of_lt, arith}
 use Rattle.std.proofs.Math.Nat.{min-le_left}
 use Rattle.std.proofs.lemmas.List.{append-nil}
@@ -27,10 +27,13 @@ use Rattle.pp_laws_asks.specs.Orders.{IsAskedWhole}
 use Rattle.pp_laws_asks.proofs.InOrder.{Found, asked_so, found_in, front_of}
 use Rattle.pp_laws_pool.proofs.Along.{after_all-append, back_from}
 use Rattle.pp_laws_lines.specs.Lines.{AsksAreOneStream, IsFront, IsOneStream, WasToAsk, joined, nothing, of_body, of_text}
+use Rattle.pp_laws_lines.specs.Hosts.{ConnectionsWereDialled, LinesGoToTheirHosts, NumbersAreDialledOnce, WasDialled}
+use Rattle.pp_laws_lines.proofs.Hosts.{GoesTo, dialled_later, goes_as}
 use Rattle.pp_laws_lines.proofs.Lined.{FactsOf, Heads, IsPlain, Lined, facts_of, lined}
 use Rattle.pp_laws_lines.proofs.LinedHeads.{got-lined}
 use Rattle.pp_laws_lines.proofs.LinedReplies.{end_replies-lined}
-use Rattle.pp_laws_lines.proofs.LinedHappenings.{IsQuiet, changed-lined, nobody, paid-lined}
+use Rattle.pp_laws_lines.proofs.LinedHappenings.{IsQuiet, changed-lined, dialled_new, nobody, paid-lined}
+use Rattle.pp_laws_lines.proofs.Once.{Numbered, dialled_in, none_numbered, numbered_more}
 use Rattle.pp_laws_lines.proofs.Stands.{AllFresh, IsNextOf, Located, Since, SoFar, Stands, Tells, WholeIn, ask_same, at_its_front, in_back, in_body, in_its_midst, in_text, located, next_still, one_by, settled_all, stands_before, tells_by, tells_still, whole_append, whole_still}
 
 abbrev pub plain : List Term → Log → ℕ → (ℕ → Option ℕ) → Since
@@ -43,6 +46,7 @@ is_plain terms log low fs = record { gone = refl; but = refl; kept = refl }
 pub record Inv (terms : List Term) (log : Log) (fs : ℕ → Option ℕ) (s : State) : Type 0 where
   pub lines : Lined (plain terms log s.top fs) s
   pub silent : (n : ℕ) → s.top < n → asked_on n log ≡ []
+  pub dials : Numbered log s.top
   pub one : (n : ℕ) → IsOneStream terms log n (asked_on n log)
 
 once : (n : ℕ) (h : Happening) → asked_on n (h ∷ []) ≡ asked_in n h ++ []
@@ -106,8 +110,8 @@ quiet n (Printed text) is = refl
 quiet n Stopped is = refl
 
 -- with other words on what was asked
-restated : (b c : Since) (s : State) → c.low ≤ s.top → c.kept ≡ None → ((k : Conn) → IsIn k s.conns → k.is_closing ≡ false → Tells c.terms c.log k.number (asked_on k.number c.log) s.exchanges k.line) → ((k : Conn) (a : Answer) → IsIn k s.conns → k.answer ≡ Some a → Heads (c.firsts k.number) s.exchanges k) → FactsOf b s → FactsOf c s
-restated b c s low none streams answers f = record {
+restated : (b c : Since) (s : State) → c.low ≤ s.top → c.kept ≡ None → ((k : Conn) → IsIn k s.conns → WasDialled c.log k.number k.host k.port) → ((k : Conn) → IsIn k s.conns → k.is_closing ≡ false → Tells c.terms c.log k.number (asked_on k.number c.log) s.exchanges k.line) → ((k : Conn) (a : Answer) → IsIn k s.conns → k.answer ≡ Some a → Heads (c.firsts k.number) s.exchanges k) → FactsOf b s → FactsOf c s
+restated b c s low none dialled streams answers f = record {
   low = low;
   apart = f.apart;
   known = f.known;
@@ -116,6 +120,8 @@ restated b c s low none streams answers f = record {
   spelled = f.spelled;
   lined = f.lined;
   placed = f.placed;
+  hosts = f.hosts;
+  dialled = dialled;
   distinct = f.distinct;
   closed = f.closed;
   streams = λ k i isnt on. streams k i isnt;
@@ -126,7 +132,7 @@ restated b c s low none streams answers f = record {
 -- of the number that was given last
 settled_top : (terms : List Term) (log : Log) (low : ℕ) (fs : ℕ → Option ℕ) (s : State) → Lined (plain terms log low fs) s → Lined (plain terms log s.top fs) s
 settled_top terms log low fs s h =
-    lined (restated (plain terms log low fs) (plain terms log s.top fs) s (le_refl s.top) refl (λ k i isnt. (facts_of h).streams k i isnt (λ is. cc is)) (λ k a i is. (facts_of h).answers k a i is (λ x. cc x)) (facts_of h))
+    lined (restated (plain terms log low fs) (plain terms log s.top fs) s (le_refl s.top) refl (facts_of h).dialled (λ k i isnt. (facts_of h).streams k i isnt (λ is. cc is)) (λ k a i is. (facts_of h).answers k a i is (λ x. cc x)) (facts_of h))
 
 -- the log grows by a happening that asks nothing
 unasked_still : (terms : List Term) (log : Log) (fs : ℕ → Option ℕ) (h : Happening) (s : State) → ((n : ℕ) → asked_in n h ≡ []) → Inv terms log fs s → (n : ℕ) → s.top < n → asked_on n (log ++ h ∷ []) ≡ []
@@ -135,17 +141,24 @@ unasked_still terms log fs h s none inv n above = one_more log h n ∙ ap (λ (x
 grown : (terms : List Term) (log : Log) (fs : ℕ → Option ℕ) (h : Happening) (s : State) → ((n : ℕ) → asked_in n h ≡ []) → Inv terms log fs s → Lined (plain terms (log ++ h ∷ []) s.top fs) s
 grown terms log fs h s none inv =
     let f = facts_of inv.lines in
-    lined (restated (plain terms log s.top fs) (plain terms (log ++ h ∷ []) s.top fs) s (le_refl s.top) refl (λ k i isnt. tells_grown terms log h k.number s.exchanges k.line (none k.number) (f.streams k i isnt (λ is. cc is))) (λ k a i is. f.answers k a i is (λ x. cc x)) f)
+    lined (restated (plain terms log s.top fs) (plain terms (log ++ h ∷ []) s.top fs) s (le_refl s.top) refl (λ k i. dialled_later log (h ∷ []) (log ++ h ∷ []) k.number k.host k.port refl (f.dialled k i)) (λ k i isnt. tells_grown terms log h k.number s.exchanges k.line (none k.number) (f.streams k i isnt (λ is. cc is))) (λ k a i is. f.answers k a i is (λ x. cc x)) f)
+
+-- a number that is dialled is new
+new_by : (s : State) (h : Happening) (n : ℕ) (host : Bytes) (port : ℕ) → h ≡ Dialled n host port → IsPermitted s h → (s.top < n) × (n ≤ (after s h).top)
+new_by s h n host port is permitted =
+    let w = dialled_new s n host port (subst (λ (x : Happening). IsPermitted s x) is permitted) in
+    (w.0, subst (λ (x : Happening). n ≤ (after s x).top) (sym is) (subst (λ m. n ≤ m) (sym w.1) (le_refl n)))
 
 pub quiet_step : (terms : List Term) (log : Log) (fs : ℕ → Option ℕ) (h : Happening) (s : State) → IsQuiet h → IsPermitted s h → Inv terms log fs s → Inv terms (log ++ h ∷ []) fs (after s h)
 quiet_step terms log fs h s none permitted inv = record {
   lines = settled_top terms (log ++ h ∷ []) s.top fs (after s h) now;
   silent = λ n above. unasked_still terms log fs h s (λ m. quiet m h none) inv n (lt_of_le_of_lt (facts_of now).low above);
+  dials = numbered_more log h s.top (after s h).top (facts_of now).low (λ n host port is. new_by s h n host port is permitted) inv.dials;
   one = λ n. one_still terms log h n (quiet n h none) (inv.one n);
 }
   where
     now : Lined (plain terms (log ++ h ∷ []) s.top fs) (after s h)
-    now = changed-lined s h none (is_plain terms (log ++ h ∷ []) s.top fs) refl (unasked_still terms log fs h s (λ m. quiet m h none) inv) permitted (grown terms log fs h s (λ m. quiet m h none) inv)
+    now = changed-lined s h none (is_plain terms (log ++ h ∷ []) s.top fs) refl (unasked_still terms log fs h s (λ m. quiet m h none) inv) (log, refl) permitted (grown terms log fs h s (λ m. quiet m h none) inv)
 
 -- what is read of an origin
 pub got_grown : (terms : List Term) (log : Log) (fs : ℕ → Option ℕ) (m : ℕ) (bytes : Bytes) (s : State) → Inv terms log fs s → Lined (plain terms (log ++ Got m bytes ∷ []) s.top fs) s
@@ -156,6 +169,7 @@ unfolding changed
 got_over terms log fs gs m bytes s inv read = record {
   lines = settled_top terms (log ++ Got m bytes ∷ []) s.top gs (after s (Got m bytes)) now;
   silent = λ n above. unasked_still terms log fs (Got m bytes) s (λ x. refl) inv n (lt_of_le_of_lt (facts_of now).low above);
+  dials = numbered_more log (Got m bytes) s.top (after s (Got m bytes)).top (facts_of now).low (λ n host port is. absurd (cc is)) inv.dials;
   one = λ n. one_still terms log (Got m bytes) n refl (inv.one n);
 }
   where
@@ -442,9 +456,9 @@ module _ (terms : List Term) (log : Log) (m : ℕ) (bytes : Bytes) (k : Conn) (e
 
     -- ---- all lines
 
-    kept_ask : (o : Bool) (x : Exchange) → ((asked_more o (length bytes) s.clock x).number ≡ x.number) × ((asked_more o (length bytes) s.clock x).text ≡ x.text) × ((asked_more o (length bytes) s.clock x).place ≡ x.place)
-    kept_ask true x = (refl, refl, refl)
-    kept_ask false x = (refl, refl, refl)
+    kept_ask : (o : Bool) (x : Exchange) → ((asked_more o (length bytes) s.clock x).number ≡ x.number) × ((asked_more o (length bytes) s.clock x).text ≡ x.text) × ((asked_more o (length bytes) s.clock x).place ≡ x.place) × ((asked_more o (length bytes) s.clock x).key ≡ x.key)
+    kept_ask true x = (refl, refl, refl, refl)
+    kept_ask false x = (refl, refl, refl, refl)
 
     elsewhere : (n : ℕ) → (n ≡ m → ⊥) → asked_in n (Asked m bytes) ≡ []
     elsewhere n isnt = by (m == n) refl
@@ -509,6 +523,8 @@ module _ (terms : List Term) (log : Log) (m : ℕ) (bytes : Bytes) (k : Conn) (e
       spelled = λ x i. spelled_by x (in_change (is_exchange e.number) f x s.exchanges i);
       lined = facts.lined;
       placed = λ j x i l q. placed_by j x i (in_change (is_exchange e.number) f x s.exchanges l) q;
+      hosts = λ j x i l q. hosts_by j x i (in_change (is_exchange e.number) f x s.exchanges l) q;
+      dialled = λ j i. dialled_later log (Asked m bytes ∷ []) longer j.number j.host j.port refl (facts.dialled j i);
       distinct = facts.distinct;
       closed = facts.closed;
       streams = λ j i isnt on. streams_by j i isnt (j.number == m) refl;
@@ -528,6 +544,11 @@ module _ (terms : List Term) (log : Log) (m : ℕ) (bytes : Bytes) (k : Conn) (e
         placed_by j x i (same l isnt) q = facts.placed j x i l q
         placed_by j x i (other y l hit eq) q =
             ap (λ (z : Exchange). z.place) eq ∙ (kept_ask (is_outstanding e) y).2 ∙ facts.placed j y i l (subst (λ n. IsIn n j.line) (ap exchange_number eq ∙ (kept_ask (is_outstanding e) y).0) q)
+
+        hosts_by : (j : Conn) (x : Exchange) → IsIn j s.conns → Changed (is_exchange e.number) f s.exchanges x → IsIn x.number j.line → GoesTo x j
+        hosts_by j x i (same l isnt) q = facts.hosts j x i l q
+        hosts_by j x i (other y l hit eq) q =
+            goes_as x y j (ap (λ (z : Exchange). z.key) eq ∙ (kept_ask (is_outstanding e) y).3) (facts.hosts j y i l (subst (λ n. IsIn n j.line) (ap exchange_number eq ∙ (kept_ask (is_outstanding e) y).0) q))
 
 -- ---- the step
 
@@ -607,6 +628,7 @@ unfolding changed
 asked_step terms log fs m bytes permitted inv = record {
   lines = settled_top terms (log ++ Asked m bytes ∷ []) (state_after terms log).top fs (after (state_after terms log) (Asked m bytes)) now;
   silent = λ n above. unasked n (lt_of_le_of_lt (facts_of now).low above);
+  dials = numbered_more log (Asked m bytes) (state_after terms log).top (after (state_after terms log) (Asked m bytes)).top (facts_of now).low (λ n host port is. absurd (cc is)) inv.dials;
   one = λ n. one_by_number n (n == m) refl;
 }
   where
@@ -660,8 +682,22 @@ pub first : (terms : List Term) (fs : ℕ → Option ℕ) → Inv terms [] fs (s
 first terms fs = record {
   lines = nobody (plain terms [] 0 fs) (start terms) (le_refl 0) refl refl refl;
   silent = λ n above. none_asked n;
+  dials = none_numbered (start terms).top;
   one = λ n. record { asks = []; whole = tt; last = []; front = nothing refl; all = none_asked n };
 }
 
+behind_all : (terms : List Term) (log : Log) → Lawful terms log → Behind terms log (state_after terms log)
+behind_all terms log lawful = inv_from terms [] log lawful (record { firsts = λ n. None; inv = first terms (λ n. None) })
+
 pub one_stream : AsksAreOneStream
-one_stream terms log number lawful = (inv_from terms [] log lawful (record { firsts = λ n. None; inv = first terms (λ n. None) })).inv.one number
+one_stream terms log number lawful = (behind_all terms log lawful).inv.one number
+
+pub lines_go : LinesGoToTheirHosts
+lines_go terms log lawful k e i j l = (facts_of (behind_all terms log lawful).inv.lines).hosts k e i j l
+
+pub were_dialled : ConnectionsWereDialled
+were_dialled terms log lawful k i = (facts_of (behind_all terms log lawful).inv.lines).dialled k i
+
+pub dialled_once : NumbersAreDialledOnce
+dialled_once terms log lawful number host other_host port other_port i j =
+    (behind_all terms log lawful).inv.dials.once number host other_host port other_port (dialled_in log number host port i) (dialled_in log number other_host other_port j)

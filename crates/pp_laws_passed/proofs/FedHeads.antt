@@ -39,7 +39,7 @@ use Rattle.pp_laws_passed.specs.Passed.{is_in_passed}
 use Rattle.pp_laws_passed.proofs.Cases.{by_outcome, by_result, each_of, each_so, when}
 use Rattle.pp_laws_passed.proofs.Fed.{Answers, AreAnswered, Fed, Feeds, FactsOf, FromConn, Grows, Keeps, Relays, SameClient, SameExchange, Tale, amid, clients_changed, facts_across, grows_not, itself_client, itself_exchange, parts_across, exchange_same, exchanges_changed, facts_of, fed, is_in_other, itself_conn, not_passed, over_amid, parts_same, still, weaker}
 use Rattle.pp_laws_passed.proofs.Delivered.{payload_grown, poured_ends, relays_finished, relays_poured}
-use Rattle.pp_laws_passed.proofs.HasRows.{HasRow, make_row-has, renewed-has}
+use Rattle.pp_laws_replies.proofs.HasRows.{HasRow, make_row-has, renewed-has}
 use Rattle.pp_laws.proofs.Payloads.{payload-nothing}
 use Rattle.pp_laws_passed.proofs.FedAsks.{close_conn-fed, end_exchange-fed, fail-fed, lose_attempt-fed, on_client_of-fed, on_conn-fed, without_row-by}
 use Rattle.pp_laws_passed.proofs.Same.{PartsOf, Same, facts_of as parts_of, itself}

@@ -6,7 +6,6 @@ pub mod Cases
 pub mod FedAsks
 pub mod SameHeads
 pub mod Delivered
-pub mod HasRows
 pub mod FedHeads
 pub mod FedTurns
 pub mod FedReplies

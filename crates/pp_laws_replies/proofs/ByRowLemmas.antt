@@ -16,6 +16,7 @@ use Rattle.pp_world.specs.declared.note.Decision.{Decision}
 use Rattle.pp_world.specs.declared.note.Decision.TheVariants.{Refuse, Hit, Part, Head, NotModified, Unsatisfiable, Relay, Validate, Fetch, Pass}
 use Rattle.pp_law.specs.Decisions.{fits, text_for, if_fits}
 use Rattle.pp_law.specs.Permits.{is_same_decision}
+use Rattle.pp_law.specs.Stages.{is_page}
 use Rattle.pp_law.specs.State.{State}
 use Rattle.pp_laws.proofs.Tests.{first_holds, same_number, second_holds}
 use Rattle.pp_laws_replies.specs.ByRow.{is_by_row}
@@ -24,75 +25,123 @@ first_of_two : (b : Bool) → (b || false) ≡ true → b ≡ true
 first_of_two true is = refl
 first_of_two false is = is
 
-pub same_decision : (due d : Decision) → is_same_decision due d ≡ true → is_by_row d ≡ true → due ≡ d
-same_decision due (Refuse e) is by = absurd (cc by)
-same_decision due Relay is by = absurd (cc by)
-same_decision due Validate is by = absurd (cc by)
-same_decision due Fetch is by = absurd (cc by)
-same_decision due Pass is by = absurd (cc by)
-same_decision (Refuse a) (Hit e f) is by = absurd (cc is)
-same_decision (Hit a b) (Hit e f) is by = ap₂ Hit (same_number a e (first_holds (a == e) (b == f) is)) (same_number b f (second_holds (a == e) (b == f) is))
-same_decision (Part a b) (Hit e f) is by = absurd (cc is)
-same_decision Head (Hit e f) is by = absurd (cc is)
-same_decision NotModified (Hit e f) is by = absurd (cc is)
-same_decision Unsatisfiable (Hit e f) is by = absurd (cc is)
-same_decision Relay (Hit e f) is by = absurd (cc is)
-same_decision Validate (Hit e f) is by = absurd (cc is)
-same_decision Fetch (Hit e f) is by = absurd (cc is)
-same_decision Pass (Hit e f) is by = absurd (cc is)
-same_decision (Refuse a) (Part e f) is by = absurd (cc is)
-same_decision (Hit a b) (Part e f) is by = absurd (cc is)
-same_decision (Part a b) (Part e f) is by = ap₂ Part (same_number a e (first_holds (a == e) (b == f) is)) (same_number b f (second_holds (a == e) (b == f) is))
-same_decision Head (Part e f) is by = absurd (cc is)
-same_decision NotModified (Part e f) is by = absurd (cc is)
-same_decision Unsatisfiable (Part e f) is by = absurd (cc is)
-same_decision Relay (Part e f) is by = absurd (cc is)
-same_decision Validate (Part e f) is by = absurd (cc is)
-same_decision Fetch (Part e f) is by = absurd (cc is)
-same_decision Pass (Part e f) is by = absurd (cc is)
-same_decision (Refuse a) Head is by = absurd (cc is)
-same_decision (Hit a b) Head is by = absurd (cc is)
-same_decision (Part a b) Head is by = absurd (cc is)
-same_decision Head Head is by = refl
-same_decision NotModified Head is by = absurd (cc is)
-same_decision Unsatisfiable Head is by = absurd (cc is)
-same_decision Relay Head is by = absurd (cc is)
-same_decision Validate Head is by = absurd (cc is)
-same_decision Fetch Head is by = absurd (cc is)
-same_decision Pass Head is by = absurd (cc is)
-same_decision (Refuse a) NotModified is by = absurd (cc is)
-same_decision (Hit a b) NotModified is by = absurd (cc is)
-same_decision (Part a b) NotModified is by = absurd (cc is)
-same_decision Head NotModified is by = absurd (cc is)
-same_decision NotModified NotModified is by = refl
-same_decision Unsatisfiable NotModified is by = absurd (cc is)
-same_decision Relay NotModified is by = absurd (cc is)
-same_decision Validate NotModified is by = absurd (cc is)
-same_decision Fetch NotModified is by = absurd (cc is)
-same_decision Pass NotModified is by = absurd (cc is)
-same_decision (Refuse a) Unsatisfiable is by = absurd (cc is)
-same_decision (Hit a b) Unsatisfiable is by = absurd (cc is)
-same_decision (Part a b) Unsatisfiable is by = absurd (cc is)
-same_decision Head Unsatisfiable is by = absurd (cc is)
-same_decision NotModified Unsatisfiable is by = absurd (cc is)
-same_decision Unsatisfiable Unsatisfiable is by = refl
-same_decision Relay Unsatisfiable is by = absurd (cc is)
-same_decision Validate Unsatisfiable is by = absurd (cc is)
-same_decision Fetch Unsatisfiable is by = absurd (cc is)
-same_decision Pass Unsatisfiable is by = absurd (cc is)
+pub no_page : (d : Decision) → is_by_row d ≡ true → is_page d ≡ false
+no_page (Refuse status) by = absurd (cc by)
+no_page (Hit from to) by = refl
+no_page (Part from to) by = refl
+no_page Head by = refl
+no_page NotModified by = refl
+no_page Unsatisfiable by = refl
+no_page Relay by = refl
+no_page Validate by = refl
+no_page Fetch by = refl
+no_page Pass by = refl
 
--- or memory was refused, which is no decision by a row
-pub same_or : (due d : Decision) (w : Bool) → (is_same_decision due d || (is_same_decision d (Refuse 500) && w)) ≡ true → is_by_row d ≡ true → is_same_decision due d ≡ true
-same_or due (Refuse status) w is by = absurd (cc by)
-same_or due Relay w is by = absurd (cc by)
-same_or due Validate w is by = absurd (cc by)
-same_or due Fetch w is by = absurd (cc by)
-same_or due Pass w is by = absurd (cc by)
-same_or due (Hit a b) w is by = first_of_two (is_same_decision due (Hit a b)) is
-same_or due (Part a b) w is by = first_of_two (is_same_decision due (Part a b)) is
-same_or due Head w is by = first_of_two (is_same_decision due Head) is
-same_or due NotModified w is by = first_of_two (is_same_decision due NotModified) is
-same_or due Unsatisfiable w is by = first_of_two (is_same_decision due Unsatisfiable) is
+pub same_decision : (due d : Decision) → is_same_decision due d ≡ true → is_page d ≡ false → due ≡ d
+same_decision due (Refuse e) is isnt = absurd (cc isnt)
+same_decision (Refuse a) (Hit e f) is isnt = absurd (cc is)
+same_decision (Hit a b) (Hit e f) is isnt = ap₂ Hit (same_number a e (first_holds (a == e) (b == f) is)) (same_number b f (second_holds (a == e) (b == f) is))
+same_decision (Part a b) (Hit e f) is isnt = absurd (cc is)
+same_decision Head (Hit e f) is isnt = absurd (cc is)
+same_decision NotModified (Hit e f) is isnt = absurd (cc is)
+same_decision Unsatisfiable (Hit e f) is isnt = absurd (cc is)
+same_decision Relay (Hit e f) is isnt = absurd (cc is)
+same_decision Validate (Hit e f) is isnt = absurd (cc is)
+same_decision Fetch (Hit e f) is isnt = absurd (cc is)
+same_decision Pass (Hit e f) is isnt = absurd (cc is)
+same_decision (Refuse a) (Part e f) is isnt = absurd (cc is)
+same_decision (Hit a b) (Part e f) is isnt = absurd (cc is)
+same_decision (Part a b) (Part e f) is isnt = ap₂ Part (same_number a e (first_holds (a == e) (b == f) is)) (same_number b f (second_holds (a == e) (b == f) is))
+same_decision Head (Part e f) is isnt = absurd (cc is)
+same_decision NotModified (Part e f) is isnt = absurd (cc is)
+same_decision Unsatisfiable (Part e f) is isnt = absurd (cc is)
+same_decision Relay (Part e f) is isnt = absurd (cc is)
+same_decision Validate (Part e f) is isnt = absurd (cc is)
+same_decision Fetch (Part e f) is isnt = absurd (cc is)
+same_decision Pass (Part e f) is isnt = absurd (cc is)
+same_decision (Refuse a) Head is isnt = absurd (cc is)
+same_decision (Hit a b) Head is isnt = absurd (cc is)
+same_decision (Part a b) Head is isnt = absurd (cc is)
+same_decision Head Head is isnt = refl
+same_decision NotModified Head is isnt = absurd (cc is)
+same_decision Unsatisfiable Head is isnt = absurd (cc is)
+same_decision Relay Head is isnt = absurd (cc is)
+same_decision Validate Head is isnt = absurd (cc is)
+same_decision Fetch Head is isnt = absurd (cc is)
+same_decision Pass Head is isnt = absurd (cc is)
+same_decision (Refuse a) NotModified is isnt = absurd (cc is)
+same_decision (Hit a b) NotModified is isnt = absurd (cc is)
+same_decision (Part a b) NotModified is isnt = absurd (cc is)
+same_decision Head NotModified is isnt = absurd (cc is)
+same_decision NotModified NotModified is isnt = refl
+same_decision Unsatisfiable NotModified is isnt = absurd (cc is)
+same_decision Relay NotModified is isnt = absurd (cc is)
+same_decision Validate NotModified is isnt = absurd (cc is)
+same_decision Fetch NotModified is isnt = absurd (cc is)
+same_decision Pass NotModified is isnt = absurd (cc is)
+same_decision (Refuse a) Unsatisfiable is isnt = absurd (cc is)
+same_decision (Hit a b) Unsatisfiable is isnt = absurd (cc is)
+same_decision (Part a b) Unsatisfiable is isnt = absurd (cc is)
+same_decision Head Unsatisfiable is isnt = absurd (cc is)
+same_decision NotModified Unsatisfiable is isnt = absurd (cc is)
+same_decision Unsatisfiable Unsatisfiable is isnt = refl
+same_decision Relay Unsatisfiable is isnt = absurd (cc is)
+same_decision Validate Unsatisfiable is isnt = absurd (cc is)
+same_decision Fetch Unsatisfiable is isnt = absurd (cc is)
+same_decision Pass Unsatisfiable is isnt = absurd (cc is)
+same_decision (Refuse a) Relay is isnt = absurd (cc is)
+same_decision (Hit a b) Relay is isnt = absurd (cc is)
+same_decision (Part a b) Relay is isnt = absurd (cc is)
+same_decision Head Relay is isnt = absurd (cc is)
+same_decision NotModified Relay is isnt = absurd (cc is)
+same_decision Unsatisfiable Relay is isnt = absurd (cc is)
+same_decision Relay Relay is isnt = refl
+same_decision Validate Relay is isnt = absurd (cc is)
+same_decision Fetch Relay is isnt = absurd (cc is)
+same_decision Pass Relay is isnt = absurd (cc is)
+same_decision (Refuse a) Validate is isnt = absurd (cc is)
+same_decision (Hit a b) Validate is isnt = absurd (cc is)
+same_decision (Part a b) Validate is isnt = absurd (cc is)
+same_decision Head Validate is isnt = absurd (cc is)
+same_decision NotModified Validate is isnt = absurd (cc is)
+same_decision Unsatisfiable Validate is isnt = absurd (cc is)
+same_decision Relay Validate is isnt = absurd (cc is)
+same_decision Validate Validate is isnt = refl
+same_decision Fetch Validate is isnt = absurd (cc is)
+same_decision Pass Validate is isnt = absurd (cc is)
+same_decision (Refuse a) Fetch is isnt = absurd (cc is)
+same_decision (Hit a b) Fetch is isnt = absurd (cc is)
+same_decision (Part a b) Fetch is isnt = absurd (cc is)
+same_decision Head Fetch is isnt = absurd (cc is)
+same_decision NotModified Fetch is isnt = absurd (cc is)
+same_decision Unsatisfiable Fetch is isnt = absurd (cc is)
+same_decision Relay Fetch is isnt = absurd (cc is)
+same_decision Validate Fetch is isnt = absurd (cc is)
+same_decision Fetch Fetch is isnt = refl
+same_decision Pass Fetch is isnt = absurd (cc is)
+same_decision (Refuse a) Pass is isnt = absurd (cc is)
+same_decision (Hit a b) Pass is isnt = absurd (cc is)
+same_decision (Part a b) Pass is isnt = absurd (cc is)
+same_decision Head Pass is isnt = absurd (cc is)
+same_decision NotModified Pass is isnt = absurd (cc is)
+same_decision Unsatisfiable Pass is isnt = absurd (cc is)
+same_decision Relay Pass is isnt = absurd (cc is)
+same_decision Validate Pass is isnt = absurd (cc is)
+same_decision Fetch Pass is isnt = absurd (cc is)
+same_decision Pass Pass is isnt = refl
+
+-- or memory was refused, which is a page
+pub same_or : (due d : Decision) (w : Bool) → (is_same_decision due d || (is_same_decision d (Refuse 500) && w)) ≡ true → is_page d ≡ false → is_same_decision due d ≡ true
+same_or due (Refuse status) w is isnt = absurd (cc isnt)
+same_or due (Hit a b) w is isnt = first_of_two (is_same_decision due (Hit a b)) is
+same_or due (Part a b) w is isnt = first_of_two (is_same_decision due (Part a b)) is
+same_or due Head w is isnt = first_of_two (is_same_decision due Head) is
+same_or due NotModified w is isnt = first_of_two (is_same_decision due NotModified) is
+same_or due Unsatisfiable w is isnt = first_of_two (is_same_decision due Unsatisfiable) is
+same_or due Relay w is isnt = first_of_two (is_same_decision due Relay) is
+same_or due Validate w is isnt = first_of_two (is_same_decision due Validate) is
+same_or due Fetch w is isnt = first_of_two (is_same_decision due Fetch) is
+same_or due Pass w is isnt = first_of_two (is_same_decision due Pass) is
 
 -- ---- of two decisions the first is none by a row
 
@@ -142,13 +191,13 @@ has_row head seen begun now d by is =
 
 -- ---- what has to fit into an ask
 
-pub fitting : (s : State) (head : Request) (key : Key) (kind : Option AskKind) (e d : Decision) → is_by_row d ≡ true → if_fits s head key kind e ≡ d → e ≡ d
-fitting s head key None e d by is = is
-fitting s head key (Some kind) e d by is = at (fits (text_for s head key kind)) is
+pub fitting : (s : State) (head : Request) (key : Key) (kind : Option AskKind) (e d : Decision) → is_page d ≡ false → if_fits s head key kind e ≡ d → e ≡ d
+fitting s head key None e d isnt is = is
+fitting s head key (Some kind) e d isnt is = at (fits (text_for s head key kind)) is
   where
     at : (b : Bool) → (elim b as (λ c. Decision) [ true ↦ e | false ↦ Refuse 431 ]) ≡ d → e ≡ d
     at true has = has
-    at false has = let both : false ≡ true = ap is_by_row has ∙ by in absurd (cc both)
+    at false has = let both : true ≡ false = ap is_page has ∙ isnt in absurd (cc both)
 
 -- ---- what a decision by a row shows
 

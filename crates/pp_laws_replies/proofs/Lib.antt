@@ -1,5 +1,8 @@
 pub mod ByRowLemmas
+pub mod Spans
 pub mod Usable
+pub mod HasRows
+pub mod Effects
 pub mod HeardLemmas
 pub mod HeardPlaces
 pub mod Quiet
@@ -14,5 +17,6 @@ pub mod StorySaid
 pub mod StoryBegins
 pub mod StoryDecided
 pub mod StoryHappenings
+pub mod StoryShown
 mod Worked
 mod WorkedRows

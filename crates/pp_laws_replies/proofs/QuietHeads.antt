@@ -21,7 +21,7 @@ use Rattle.pp_law.specs.Passing.{pour}
 use Rattle.pp_law.specs.Responses.{skipping, skip_body, rested, close_this, may_go_on, finish, bad_response, bad_head, by_aim, asks_head, answer_with, end_if_empty, begin_answer, answer_for, head_came, Piece, is_early, with_unread, head_piece, deliver, payload_of, body_piece_of, body_piece, next_piece, got, is_whole_at_end, finish_first, ended, bring_row, is_readable}
 use Rattle.pp_law.specs.Stages.{on_passed, bound_of}
 use Rattle.pp_law.specs.State.{State, Answer, Body, Brought, Client, Conn, Exchange, Instance, Bound}
-use Rattle.pp_law.specs.Table.{row, instance}
+use Rattle.pp_law.specs.Table.{row}
 use Rattle.pp_law.specs.ThroughHeads.{invalidates, key_named, is_same_host, clear_named, clear_each, places_named, invalidated, disproves, reads, disproved, through_head}
 use Rattle.pp_laws_replies.proofs.Cases.{by_aim_of, by_outcome, by_result, each_of, when}
 use Rattle.pp_laws_replies.proofs.HeardPlaces.{none_left, read}

@@ -1,5 +1,5 @@
 -- A reply that was said whole is over, and the next request stands.
-use Rattle.std.proofs.Common.{◌≡◌, refl, ℕ, Bool, true, false, not, ◌==◌, ◌&&◌, List, [], ◌∷◌, ◌++◌, Option, Some, None, Result, Ok, Err, is_ok, inl, inr, sym, subst, ap, ◌∙◌, append_assoc, append-nil, arith}
+use Rattle.std.proofs.Common.{◌≡◌, refl, ℕ, ◌≤◌, suc, ◌+◌, ◌-◌, Bool, true, false, not, ◌==◌, ◌&&◌, List, [], ◌∷◌, ◌++◌, length, Option, Some, None, Result, Ok, Err, is_ok, inl, inr, sym, subst, ap, ◌∙◌, append_assoc, append-nil, length-append, arith}
 use Rattle.std.specs.List.{concat}
 use Rattle.pp_framing.specs.declared.body.BodyRule.{BodyRule}
 use Rattle.pp_framing.specs.declared.framing.FramingFault.{FramingFault}
@@ -14,18 +14,19 @@ use Rattle.pp_law.specs.Requests.{Front, Parsed, NoHeadYet, NoHead as NoFront, I
 use Rattle.pp_law.specs.Stages.{reply_of}
 use Rattle.pp_law.specs.State.{State, Client, Stage, Undecided, Waiting, Passing, Answering, Reply, Instance}
 use Rattle.pp_law.specs.Table.{swept}
+use Rattle.pp_world.specs.declared.note.Decision.{Decision}
 use Rattle.pp_laws.specs.Runs.{IsIn}
 use Rattle.pp_laws.proofs.Callers.{next_request-same}
 use Rattle.pp_laws.proofs.Lists.{in_find, one_of}
 use Rattle.pp_laws.proofs.Sound.{client_number}
 use Rattle.pp_laws.proofs.Tests.{first_holds, same_number, second_holds}
-use Rattle.pp_laws_replies.specs.Replies.{IsReply, is_page, is_kept, is_passed, IsWholeReply, AreReplies}
+use Rattle.pp_laws_replies.specs.Replies.{IsReply, is_page, is_kept, is_passed, IsWholeReply, AreRepliesFrom}
 use Rattle.pp_laws_replies.proofs.HeardPlaces.{ends_nowhere, place_next}
 use Rattle.pp_laws_replies.proofs.Quiet.{quiet_same}
 use Rattle.pp_laws_replies.proofs.QuietAsks.{close_client-quiet, forsake-quiet}
 use Rattle.pp_laws_replies.proofs.QuietRows.{swept-quiet}
 use Rattle.pp_laws_replies.proofs.QuietTurns.{close_finished-quiet}
-use Rattle.pp_laws_replies.proofs.Stories.{Told, Begun, a_page, a_kept, a_passed, Now, undecided, waiting, chosen, begun, Story, Orderly, changed_orderly, order_of, quiet_orderly}
+use Rattle.pp_laws_replies.proofs.Stories.{Told, Begun, a_page, a_kept, a_passed, kept_head, Now, undecided, waiting, chosen, begun, Story, Orderly, changed_orderly, order_of, quiet_orderly}
 
 -- ---- what is said whole
 
@@ -59,34 +60,39 @@ said_reply c (Answering r) stage none is =
 said_whole : (c : Client) → is_said c ≡ true → SaidWhole c
 said_whole c is = said_reply c c.stage refl (first_holds (is_empty c.interim_left) _ is) (second_holds (is_empty c.interim_left) (is_some_with (λ r. r.has_begun && is_empty r.head_left && has_no_more c r) (reply_of c)) is)
 
-whole_of : (f : Front) (closes : Bool) (r : Reply) (head body : Bytes) → r.at ≡ r.to → Begun f closes r head body → IsReply f true closes head body
-whole_of f closes r head body all (a_page status isnt_on to is none end) = is_page status is none end
-whole_of f closes r head body all (a_kept q front isnt_on k long end) = is_kept q front k (omega arith) (λ whole. omega arith) end
-whole_of f closes r head body all (a_passed q front is_on head_is end) = is_passed q front head_is end
+all_said : (a at to m : ℕ) → at ≡ to → a + (to - at) ≡ m → (a ≤ m) × (a ≡ m)
+all_said a at to m all is = (omega arith, omega arith)
 
-whole_reply : (instances : List Instance) (next_instance : ℕ) (c : Client) (last : Bytes) → c.closes ≡ false → SaidWhole c → Now instances next_instance c last → IsWholeReply c.front last
-whole_reply instances next_instance c last goes_on w (undecided stage none is) = let both : Undecided ≡ Answering w.reply = sym stage ∙ w.stage in absurd (cc both)
-whole_reply instances next_instance c last goes_on w (waiting (inl stage) has is) = let both : Waiting ≡ Answering w.reply = sym stage ∙ w.stage in absurd (cc both)
-whole_reply instances next_instance c last goes_on w (waiting (inr stage) has is) = let both : Passing ≡ Answering w.reply = sym stage ∙ w.stage in absurd (cc both)
-whole_reply instances next_instance c last goes_on w (chosen r stage isnt_on has is what) =
+whole_of : {instances : List Instance} {next_instance : ℕ} (f : Front) (closes : Bool) (r : Reply) (head body : Bytes) → r.at ≡ r.to → Begun instances next_instance f closes r head body → IsReply f r.decision true closes head body
+whole_of f closes r head body all (a_page status is_decided to is none end) = is_page status is_decided is none end
+whole_of f closes r head body all (a_kept q front by k given end) = is_kept q front by (kept_head k) (all_said (length body) r.at r.to _ all k.still_to_say).0 (λ whole. (all_said (length body) r.at r.to _ all k.still_to_say).1) end
+whole_of f closes r head body all (a_passed q front is_on head_is end) = is_passed q front is_on head_is end
+
+whole_reply : (instances : List Instance) (next_instance : ℕ) (decided : Option Decision) (c : Client) (last : Bytes) → c.closes ≡ false → SaidWhole c → Now instances next_instance decided c last → IsWholeReply c.front decided last
+whole_reply instances next_instance decided c last goes_on w (undecided stage none is) = let both : Undecided ≡ Answering w.reply = sym stage ∙ w.stage in absurd (cc both)
+whole_reply instances next_instance decided c last goes_on w (waiting (inl stage) has is) = let both : Waiting ≡ Answering w.reply = sym stage ∙ w.stage in absurd (cc both)
+whole_reply instances next_instance decided c last goes_on w (waiting (inr stage) has is) = let both : Passing ≡ Answering w.reply = sym stage.0 ∙ w.stage in absurd (cc both)
+whole_reply instances next_instance decided c last goes_on w (chosen r stage isnt_on taken has is what) =
     let both : Answering r ≡ Answering w.reply = sym stage ∙ w.stage in
     let eq : r ≡ w.reply = cc in
     let off : false ≡ true = sym isnt_on ∙ ap (λ (x : Reply). x.has_begun) eq ∙ w.begun in absurd (cc off)
-whole_reply instances next_instance c last goes_on w (begun r stage is_on has head body is rest what) =
+whole_reply instances next_instance decided c last goes_on w (begun r stage is_on taken has head body is rest what) =
     let both : Answering r ≡ Answering w.reply = sym stage ∙ w.stage in
     let eq : r ≡ w.reply = cc in
     record {
+      decision = r.decision;
+      by = taken;
       head = head;
       body = body;
       spelled = sym (append-nil last) ∙ sym (append-nil (last ++ [])) ∙ ap (λ l. (last ++ l) ++ []) (sym w.interim) ∙ ap (λ l. (last ++ c.interim_left) ++ l) (sym w.head ∙ ap (λ (x : Reply). x.head_left) (sym eq)) ∙ is;
-      is = subst (λ t. IsReply c.front true t head body) goes_on (whole_of c.front c.closes r head body (ap (λ (x : Reply). x.at) eq ∙ w.all ∙ ap (λ (x : Reply). x.to) (sym eq)) what);
+      is = subst (λ t. IsReply c.front r.decision true t head body) goes_on (whole_of c.front c.closes r head body (ap (λ (x : Reply). x.at) eq ∙ w.all ∙ ap (λ (x : Reply). x.to) (sym eq)) what);
     }
 
-has_one : (instances : List Instance) (next_instance : ℕ) (c : Client) (last : Bytes) → SaidWhole c → Now instances next_instance c last → has_request c.front ≡ true
-has_one instances next_instance c last w (undecided stage none is) = let both : Undecided ≡ Answering w.reply = sym stage ∙ w.stage in absurd (cc both)
-has_one instances next_instance c last w (waiting stage has is) = has
-has_one instances next_instance c last w (chosen r stage isnt_on has is what) = has
-has_one instances next_instance c last w (begun r stage is_on has head body is rest what) = has
+has_one : (instances : List Instance) (next_instance : ℕ) (decided : Option Decision) (c : Client) (last : Bytes) → SaidWhole c → Now instances next_instance decided c last → has_request c.front ≡ true
+has_one instances next_instance decided c last w (undecided stage none is) = let both : Undecided ≡ Answering w.reply = sym stage ∙ w.stage in absurd (cc both)
+has_one instances next_instance decided c last w (waiting stage has is) = has
+has_one instances next_instance decided c last w (chosen r stage isnt_on taken has is what) = has
+has_one instances next_instance decided c last w (begun r stage is_on taken has head body is rest what) = has
 
 -- ---- a reply that does not close is to a request whose end is known
 
@@ -106,36 +112,44 @@ page_end NoHeadYet status is = refl
 page_end (NoFront other) status is = refl
 page_end (IsRequest r) status is = open_end r (first_holds (keeps_open r) (not (is_last status)) is)
 
-end_known : (f : Front) (head body : Bytes) → IsReply f true false head body → ends_nowhere f ≡ false
-end_known f head body (is_page status is none end) = page_end f status (is_open (keeps_after status f) end)
-end_known f head body (is_kept r front k short long end) = ap ends_nowhere front ∙ open_end r (is_open (keeps_open r) end)
-end_known f head body (is_passed r front p end) = ap ends_nowhere front ∙ open_end r (first_holds (keeps_open r) (is_end_known p.rule r.head.minor) (is_open (keeps_open r && is_end_known p.rule r.head.minor) end))
+end_known : (f : Front) (d : Decision) (head body : Bytes) → IsReply f d true false head body → ends_nowhere f ≡ false
+end_known f d head body (is_page status is_decided is none end) = page_end f status (is_open (keeps_after status f) end)
+end_known f d head body (is_kept r front by k short long end) = ap ends_nowhere front ∙ open_end r (is_open (keeps_open r) end)
+end_known f d head body (is_passed r front is_on p end) = ap ends_nowhere front ∙ open_end r (first_holds (keeps_open r) (is_end_known p.rule r.head.minor) (is_open (keeps_open r && is_end_known p.rule r.head.minor) end))
 
 -- ---- one more reply
 
-pub one_more : (fs : List Front) (texts : List Bytes) (f : Front) (text : Bytes) → AreReplies fs texts → IsWholeReply f text → AreReplies (fs ++ f ∷ []) (texts ++ text ∷ [])
-one_more [] [] f text each is = (is, tt)
-one_more [] (t ∷ texts) f text each is = absurd each
-one_more (g ∷ fs) [] f text each is = absurd each
-one_more (g ∷ fs) (t ∷ texts) f text each is = (each.0, one_more fs texts f text each.1 is)
+pub one_more : (decided : ℕ → Option Decision) (i : ℕ) (fs : List Front) (texts : List Bytes) (f : Front) (text : Bytes) → AreRepliesFrom decided i fs texts → IsWholeReply f (decided (i + length fs)) text
+    → AreRepliesFrom decided i (fs ++ f ∷ []) (texts ++ text ∷ [])
+one_more decided i [] [] f text each is = (subst (λ j. IsWholeReply f (decided j) text) (omega arith) is, tt)
+one_more decided i [] (t ∷ texts) f text each is = absurd each
+one_more decided i (g ∷ fs) [] f text each is = absurd each
+one_more decided i (g ∷ fs) (t ∷ texts) f text each is = (each.0, one_more decided (i + 1) fs texts f text each.1 (subst (λ j. IsWholeReply f (decided j) text) (further i (length fs)) is))
+  where
+    further : (a n : ℕ) → a + suc n ≡ (a + 1) + n
+    further a n = omega arith
 
 pub concat_push : (texts : List Bytes) (text : Bytes) → concat (texts ++ text ∷ []) ≡ concat texts ++ text
 concat_push [] text = append-nil text
 concat_push (t ∷ texts) text = ap (λ l. t ++ l) (concat_push texts text) ∙ sym (append_assoc t (concat texts) text)
 
+from_first : (a b : ℕ) → a ≡ b → 0 + a ≡ b
+from_first a b is = omega arith
+
 pub next_story : {instances : List Instance} {next_instance : ℕ} (told : Told) (c : Client) → c.closes ≡ false → is_said c ≡ true → Story instances next_instance told c → Story instances next_instance told (next_request c)
 next_story {instances} {next_instance} told c goes_on is story = record {
   requests = story.requests ++ c.front ∷ [];
+  count = length-append story.requests (c.front ∷ []) ∙ ap (λ n. n + 1) story.count;
   replies = story.replies ++ story.last ∷ [];
-  each = one_more story.requests story.replies c.front story.last story.each whole;
+  each = one_more told.decided 0 story.requests story.replies c.front story.last story.each (subst (λ i. IsWholeReply c.front (told.decided i) story.last) (sym (from_first (length story.requests) c.index story.count)) whole);
   last = [];
   all = story.all ∙ sym (concat_push story.replies story.last) ∙ sym (append-nil (concat (story.replies ++ story.last ∷ [])));
-  place = place_next told.heard story.requests c (has_one instances next_instance c story.last (said_whole c is) story.now) (end_known c.front whole.head whole.body whole.is) story.place;
+  place = place_next told.heard story.requests c (has_one instances next_instance (told.decided c.index) c story.last (said_whole c is) story.now) (end_known c.front whole.decision whole.head whole.body whole.is) story.place;
   now = undecided refl refl refl;
 }
   where
-    whole : IsWholeReply c.front story.last
-    whole = whole_reply instances next_instance c story.last goes_on (said_whole c is) story.now
+    whole : IsWholeReply c.front (told.decided c.index) story.last
+    whole = whole_reply instances next_instance (told.decided c.index) c story.last goes_on (said_whole c is) story.now
 
 -- ---- the walk over clients
 

@@ -32,7 +32,7 @@ use Rattle.pp_law.specs.Phases.{is_awaiting, due_victim, come_to, come_to_decide
 use Rattle.pp_law.specs.Replies.{said_by, use_chunks, use_from, use_said, of_body, end_replies, regained}
 use Rattle.pp_law.specs.Requests.{Front, NoHeadYet, NoHead as NoFront, IsRequest, has_request}
 use Rattle.pp_law.specs.Responses.{ended}
-use Rattle.pp_law.specs.State.{State, Term, RowRefused, Client, Conn, Exchange, Instance, IsRooted, IsListed, IsListening, IsWoken, Handling, Evicting, Keeping, Deciding, Following, Connecting, DecidingAgain, Owed, ReadOf, WriteTo, start}
+use Rattle.pp_law.specs.State.{State, Term, RowRefused, Client, Conn, Exchange, Instance, IsRooted, IsListed, IsListening, IsWoken, Handling, Evicting, Keeping, Deciding, Connecting, DecidingAgain, Owed, ReadOf, WriteTo, start}
 use Rattle.pp_law.specs.Table.{forget, next_of}
 use Rattle.pp_laws_replies.proofs.HeardPlaces.{place_heard, read}
 use Rattle.pp_laws.specs.Numbers.{AreRising}
@@ -45,19 +45,20 @@ use Rattle.pp_laws.proofs.Sound.{Since, Sound, client_number}
 use Rattle.pp_laws.proofs.Steps.{deciding-sound}
 use Rattle.pp_laws.proofs.Tests.{below, first_holds, number_same, same_number, second_holds, same_bytes}
 use Rattle.pp_laws.proofs.Tops.{come_to-top}
-use Rattle.pp_laws_replies.specs.Replies.{before, RepliesInOrder}
+use Rattle.pp_laws_replies.specs.Replies.{before, taken as taken_of, taken_from, taken_in, RepliesInOrder}
 use Rattle.pp_laws_replies.proofs.Cases.{by_pause, each_of, when}
+use Rattle.pp_laws_replies.proofs.HasRows.{found as find_one}
 use Rattle.pp_laws_replies.proofs.Quiet.{clients_changed_in, Quiet, Quietly, clients_changed, facts_of, old_row, quiet_same, quietly}
 use Rattle.pp_laws_replies.proofs.QuietAsks.{close_client-quiet, end_exchange-quiet, fill-quiet, lose_attempt-quiet, on_client-quiet, on_conn-quiet, on_exchange-quiet, parts_same, placing-quiet, put_on-quiet}
 use Rattle.pp_laws_replies.proofs.QuietHeads.{ended-quiet, got-quiet}
 use Rattle.pp_laws_replies.proofs.QuietRows.{begin_in_opening-quiet, begin_in_turn-quiet, close_name-quiet, configured-quiet, drop_chunk-quiet, end_op-quiet, forget-quiet, load-quiet, lose_in_opening-quiet, note_gone-quiet, note_kept-quiet, opened_to-quiet}
 use Rattle.pp_laws_replies.proofs.QuietTurns.{come_to-quiet, come_to_decide-quiet, deciding-quiet, in_phase-quiet, regained-quiet, rest_with-quiet, tick-quiet, touch-quiet, use_said-quiet}
-use Rattle.pp_laws_replies.proofs.Stories.{Told, Now, undecided, waiting, chosen, begun, now_alike, Alike, SameRows, Story, OrderOf, Orderly, changed_orderly, in_order, order_of, orderly, quiet_orderly}
+use Rattle.pp_laws_replies.proofs.Stories.{Told, Now, undecided, waiting, chosen, begun, now_alike, Alike, SameRows, Story, OrderOf, Orderly, changed_orderly, decides_too, in_order, order_of, orderly, quiet_orderly}
 use Rattle.pp_laws_replies.proofs.StoryBegins.{begin_replies-orderly}
 use Rattle.pp_laws_replies.proofs.StoryDecided.{IsFree, decided-orderly}
 use Rattle.pp_laws_replies.proofs.StoryEnds.{end_replies-orderly}
 use Rattle.pp_laws_replies.proofs.StorySaid.{Steps, no_client, said_front, said_some, steps, story_said}
-use Rattle.pp_laws_replies.proofs.Usable.{TakenFor, UsedRow, due_has, due_off, due_used, permitted_taken, taken_for}
+use Rattle.pp_laws_replies.proofs.Usable.{KeyFor, TakenFor, UsedRow, due_has, due_key, due_off, due_used, permitted_taken, taken_for}
 
 -- ---- what says nothing
 
@@ -233,8 +234,8 @@ heard_front c (IsRequest r) has = refl
 rows_same : (s : State) → SameRows s.instances s.next_instance s.instances s.next_instance
 rows_same s = record { from = λ x i. old_row x i refl refl; next_is = le_refl s.next_instance }
 
-now_heard : (s : State) (bytes : Bytes) (c : Client) (last : Bytes) → Now s.instances s.next_instance c last → Now s.instances s.next_instance (heard_by bytes c) last
-now_heard s bytes c last now = by now
+now_heard : (s : State) (bytes : Bytes) (c : Client) (decided : Option Decision) (last : Bytes) → Now s.instances s.next_instance decided c last → Now s.instances s.next_instance decided (heard_by bytes c) last
+now_heard s bytes c decided last now = by now
   where
     more : Client
     more = record c { heard = c.heard ++ what_counts c.front (drop c.skip bytes); skip = c.skip - length bytes }
@@ -242,21 +243,34 @@ now_heard s bytes c last now = by now
     alike : has_request c.front ≡ true → Alike (heard_by bytes c) c
     alike has = record { front = heard_front more c.front has; stage = (heard_stage more c.front).0; interim = (heard_stage more c.front).1; closes = (heard_stage more c.front).2 }
 
-    by : Now s.instances s.next_instance c last → Now s.instances s.next_instance (heard_by bytes c) last
+    by : Now s.instances s.next_instance decided c last → Now s.instances s.next_instance decided (heard_by bytes c) last
     by (undecided stage none is) = undecided ((heard_stage more c.front).0 ∙ stage) ((heard_stage more c.front).1 ∙ none) is
-    by (waiting stage has is) = now_alike s.instances s.next_instance s.instances s.next_instance (heard_by bytes c) c last (rows_same s) (alike has) now
-    by (chosen r stage isnt_on has is what) = now_alike s.instances s.next_instance s.instances s.next_instance (heard_by bytes c) c last (rows_same s) (alike has) now
-    by (begun r stage is_on has head body is rest what) = now_alike s.instances s.next_instance s.instances s.next_instance (heard_by bytes c) c last (rows_same s) (alike has) now
+    by (waiting stage has is) = now_alike s.instances s.next_instance s.instances s.next_instance (heard_by bytes c) c decided last (rows_same s) (alike has) now
+    by (chosen r stage isnt_on taken has is what) = now_alike s.instances s.next_instance s.instances s.next_instance (heard_by bytes c) c decided last (rows_same s) (alike has) now
+    by (begun r stage is_on taken has head body is rest what) = now_alike s.instances s.next_instance s.instances s.next_instance (heard_by bytes c) c decided last (rows_same s) (alike has) now
+
+heard_index : (bytes : Bytes) (c : Client) → (heard_by bytes c).index ≡ c.index
+heard_index bytes c = by c.front
+  where
+    by : (front : Front) → (elim front as (λ x. Client) [
+      | NoHeadYet ↦ fronted (record c { heard = c.heard ++ what_counts c.front (drop c.skip bytes); skip = c.skip - length bytes })
+      | NoFront status ↦ record c { heard = c.heard ++ what_counts c.front (drop c.skip bytes); skip = c.skip - length bytes }
+      | IsRequest r ↦ record c { heard = c.heard ++ what_counts c.front (drop c.skip bytes); skip = c.skip - length bytes }
+    ]).index ≡ c.index
+    by NoHeadYet = refl
+    by (NoFront status) = refl
+    by (IsRequest r) = refl
 
 story_heard : {told : Told} (bytes : Bytes) (s : State) (c : Client) → Story s.instances s.next_instance told c → Story s.instances s.next_instance (record told { heard = told.heard ++ bytes }) (heard_by bytes c)
 story_heard {told} bytes s c story = record {
   requests = story.requests;
+  count = story.count ∙ sym (heard_index bytes c);
   replies = story.replies;
   each = story.each;
   last = story.last;
   all = story.all;
   place = place_heard told.heard story.requests bytes c story.place;
-  now = now_heard s bytes c story.last story.now;
+  now = subst (λ i. Now s.instances s.next_instance (told.decided i) (heard_by bytes c) story.last) (sym (heard_index bytes c)) (now_heard s bytes c (told.decided c.index) story.last story.now);
 }
 
 heard_nothing : {n : ℕ} {told : Told} (s : State) → Orderly n told s → Orderly n (record told { heard = told.heard ++ [] }) s
@@ -352,6 +366,7 @@ opened-orderly {n} {told} m s above h = orderly (record {
     present_by c (inl i) is = o.present c i is
     present_by c (inr eq) is = let none = o.absent (subst (λ k. s.top < k) (sym (ap client_number eq) ∙ is) above) in subst (λ (x : Client). Story s.instances s.next_instance told x) (sym eq) (record {
       requests = [];
+      count = refl;
       replies = [];
       each = tt;
       last = [];
@@ -479,7 +494,10 @@ free_when s c d due = record { has = due_has s c d due; off = due_off s c d due 
 used_in : (s : State) (c : Client) (d : Decision) → UsedRow s c d → UsedRow (in_phase Deciding s) c d
 used_in s c d used = record { request = used.request; asks = used.asks; key = used.key; names = used.names; row = used.row; known = used.known; ready = used.ready; made = used.made }
 
-taken-orderly : {n : ℕ} {told : Told} {b : Since} (m i : ℕ) (d : Decision) (s : State) → permits_taken s m i d ≡ true → Sound b s → Orderly n told s → Orderly n told (take_decision m d (deciding s))
+keyed_in : (s : State) (c : Client) (d : Decision) → KeyFor s c d → KeyFor (in_phase Deciding s) c d
+keyed_in s c d k = record { request = k.request; asks = k.asks; key = k.key; names = k.names; made = k.made }
+
+taken-orderly : {n : ℕ} {told : Told} {b : Since} (m i : ℕ) (d : Decision) (s : State) → permits_taken s m i d ≡ true → Sound b s → Orderly n told s → Orderly n (decides_too n m i d told) (take_decision m d (deciding s))
 unfolding take_decision deciding
 taken-orderly {n} {told} {b} m i d s is hs h = by (client (deciding s) m) refl
   where
@@ -492,18 +510,27 @@ taken-orderly {n} {told} {b} m i d s is hs h = by (client (deciding s) m) refl
     t : TakenFor u m i d
     t = taken_for s m i d is
 
-    by : (o : Option Client) → client (in_phase Deciding u) m ≡ o → Orderly n told (elim o as (λ x. State) [ None ↦ in_phase Deciding u | Some c ↦ regained (record (decided c d (in_phase Deciding u)) { forgotten = []; made_room_for = None }) ])
-    by None none = hu
+    by : (o : Option Client) → client (in_phase Deciding u) m ≡ o
+        → Orderly n (decides_too n m i d told) (elim o as (λ x. State) [ None ↦ in_phase Deciding u | Some c ↦ regained (record (decided c d (in_phase Deciding u)) { forgotten = []; made_room_for = None }) ])
+    by None none = absurd (find_one (is_client m) t.one u.clients t.there (subst (λ k. (k == m) ≡ true) (sym t.number) (number_same m)) none)
     by (Some c) found =
         let there = in_find (is_client m) c u.clients found in
         let eq : c ≡ t.one = one_of client_number u.clients c t.one (order_of hu).rise there.0 t.there (same_number c.number m there.1 ∙ sym t.number) in
         let due : due_decision u c ≡ Some t.due = ap (due_decision u) eq ∙ t.is in
         quiet_orderly (decided c d (in_phase Deciding u)) _ (regained-quiet _ (quietly (facts_of (quiet_same (decided c d (in_phase Deciding u))))))
-        (decided-orderly c d (in_phase Deciding u) there.0 (free_when u c t.due due) (λ by_row. used_in u c d (due_used u c d by_row (due ∙ ap (λ e. Some e) (t.same by_row)))) (deciding-sound s hs) hu)
+        (subst (λ k. Orderly n (decides_too n k i d told) (decided c d (in_phase Deciding u))) (same_number c.number m there.1)
+        (subst (λ k. Orderly n (decides_too n c.number k d told) (decided c d (in_phase Deciding u))) (ap (λ (x : Client). x.index) eq ∙ t.index)
+        (decided-orderly c d (in_phase Deciding u) there.0 (free_when u c t.due due)
+        (λ isnt. keyed_in u c d (due_key u c d isnt (due ∙ ap (λ e. Some e) (t.is_it isnt))))
+        (λ by_row. used_in u c d (due_used u c d by_row (due ∙ ap (λ e. Some e) (t.same by_row)))) (deciding-sound s hs) hu)))
 
 -- ---- notes
 
-noted-orderly : {n : ℕ} {told : Told} {b : Since} (remark : Remark) (s : State) → IsPermitted s (Noted remark) → Sound b s → Orderly n told s → Orderly n told (noted remark s)
+-- this was decided too
+abbrev notes_too : ℕ → Remark → Told → Told
+notes_too n remark told = record told { decided = λ i. taken_in n i (Noted remark) (told.decided i) }
+
+noted-orderly : {n : ℕ} {told : Told} {b : Since} (remark : Remark) (s : State) → IsPermitted s (Noted remark) → Sound b s → Orderly n told s → Orderly n (notes_too n remark told) (noted remark s)
 unfolding noted
 noted-orderly (Taken m i d) s is hs h = taken-orderly m i d s (permitted_taken s m i d is) hs h
 noted-orderly (Cut m cause) s is hs h = quiet_orderly s _ (close_client-quiet m true _ (deciding-quiet s (quiet_same s))) h
@@ -535,7 +562,14 @@ dialled_above s n host port is = dialled_by s n host port s.made_room_for is
 
 -- this too was heard and said
 abbrev more_told : Told → Bytes → Bytes → Told
-more_told told more further = record { heard = told.heard ++ more; said = told.said ++ further }
+more_told told more further = record { heard = told.heard ++ more; said = told.said ++ further; decided = told.decided }
+
+-- and what this happening tells
+abbrev told_by : ℕ → Happening → Told → Told
+told_by n happening told = record { heard = told.heard ++ heard_in n happening; said = told.said ++ said_in n happening; decided = λ i. taken_in n i happening (told.decided i) }
+
+abbrev told_in : ℕ → Log → Told → Told
+told_in n log told = record { heard = told.heard ++ heard_of n log; said = told.said ++ said_to n log; decided = λ i. taken_from n i (told.decided i) log }
 
 -- nothing is heard, and nothing said
 untold : {n : ℕ} {told : Told} (s : State) → Orderly n told s → Orderly n (more_told told [] []) s
@@ -552,7 +586,7 @@ dialled_on m host port s above h =
 paid_on : {n : ℕ} {told : Told} (s : State) → Orderly n told s → Orderly n told (paid s)
 paid_on s h = quiet_orderly s (paid s) (paid-quiet s (quiet_same s)) h
 
-changed-orderly : {n : ℕ} {told : Told} {b : Since} (s : State) (happening : Happening) → IsPermitted s happening → Sound b s → Orderly n told s → Orderly n (more_told told (heard_in n happening) (said_in n happening)) (changed s happening)
+changed-orderly : {n : ℕ} {told : Told} {b : Since} (s : State) (happening : Happening) → IsPermitted s happening → Sound b s → Orderly n told s → Orderly n (told_by n happening told) (changed s happening)
 unfolding changed
 changed-orderly s (Woke image) is hs h = untold _ (woken-orderly image s h)
 changed-orderly s (Waits w) is hs h =
@@ -587,22 +621,22 @@ changed-orderly s Stopped is hs h = quietly_on s _ (event-quiet (record s { is_s
 
 -- ---- along a log
 
-all_orderly : {n : ℕ} {b : Since} (told : Told) (s : State) (log : Log) → b.excepts ≡ None → b.counts_loads ≡ false → LawfulFrom s log → Sound b s → Orderly n told s → Orderly n (more_told told (heard_of n log) (said_to n log)) (after_all s log)
+all_orderly : {n : ℕ} {b : Since} (told : Told) (s : State) (log : Log) → b.excepts ≡ None → b.counts_loads ≡ false → LawfulFrom s log → Sound b s → Orderly n told s → Orderly n (told_in n log told) (after_all s log)
 unfolding said_to heard_of
 all_orderly told s [] none loads lawful hs h = untold s h
 all_orderly {n} {b} told s (happening ∷ log) none loads lawful hs h =
     subst (λ t. Orderly n t (after_all (after s happening) log))
     (ap₂ told_of (append_assoc told.heard (heard_in n happening) (heard_of n log)) (append_assoc told.said (said_in n happening) (said_to n log)))
-    (all_orderly {b = b} (more_told told (heard_in n happening) (said_in n happening)) (after s happening) log none loads lawful.1 (after-sound s happening none (λ counts. absurd (uncounted counts)) lawful.0 hs) (changed-orderly s happening lawful.0 hs h))
+    (all_orderly {b = b} (told_by n happening told) (after s happening) log none loads lawful.1 (after-sound s happening none (λ counts. absurd (uncounted counts)) lawful.0 hs) (changed-orderly s happening lawful.0 hs h))
   where
     told_of : Bytes → Bytes → Told
-    told_of more further = record { heard = more; said = further }
+    told_of more further = record { heard = more; said = further; decided = λ i. taken_from n i (taken_in n i happening (told.decided i)) log }
 
     uncounted : b.counts_loads ≡ true → ⊥
     uncounted counts = let both : false ≡ true = sym loads ∙ counts in cc both
 
 abbrev nothing_told : Told
-nothing_told = record { heard = []; said = [] }
+nothing_told = record { heard = []; said = []; decided = λ i. None }
 
 start_orderly : (n : ℕ) (terms : List Term) → Orderly n nothing_told (start terms)
 start_orderly n terms = orderly (record {
@@ -617,11 +651,13 @@ start_orderly n terms = orderly (record {
 from_start : Since
 from_start = record { old = []; counts_loads = false; excepts = None }
 
-pub replies_in_order : RepliesInOrder
-unfolding from_start
-replies_in_order terms log n lawful = (order_of (all_orderly {b = from_start} nothing_told (start terms) log refl refl lawful (start-sound from_start terms refl) (start_orderly n terms))).sofar
-
 -- what was told to a client, in the state behind a lawful log
-pub story_at : (n : ℕ) (terms : List Term) (log : Log) → Lawful terms log → (told : Told) × Orderly n told (after_all (start terms) log)
+pub orderly_at : (n : ℕ) (terms : List Term) (log : Log) → Lawful terms log → Orderly n (record { heard = heard_of n log; said = said_to n log; decided = taken_of n log }) (after_all (start terms) log)
 unfolding from_start
-story_at n terms log lawful = (more_told nothing_told (heard_of n log) (said_to n log), all_orderly {b = from_start} nothing_told (start terms) log refl refl lawful (start-sound from_start terms refl) (start_orderly n terms))
+orderly_at n terms log lawful = all_orderly {b = from_start} nothing_told (start terms) log refl refl lawful (start-sound from_start terms refl) (start_orderly n terms)
+
+pub story_at : (n : ℕ) (terms : List Term) (log : Log) → Lawful terms log → (told : Told) × Orderly n told (after_all (start terms) log)
+story_at n terms log lawful = (record { heard = heard_of n log; said = said_to n log; decided = taken_of n log }, orderly_at n terms log lawful)
+
+pub replies_in_order : RepliesInOrder
+replies_in_order terms log n lawful = (order_of (orderly_at n terms log lawful)).sofar

@@ -8,6 +8,7 @@ use Rattle.std.specs.List.{starts_with}
 use Rattle.pp_pass.specs.Pipe.{without_first}
 use Rattle.pp_text.specs.Bytes.{is_empty}
 use Rattle.pp_world.specs.declared.happening.Happening.TheVariants.{Said}
+use Rattle.pp_world.specs.declared.note.Decision.{Decision}
 use Rattle.pp_law.specs.Asking.{is_writing}
 use Rattle.pp_law.specs.Connections.{client}
 use Rattle.pp_law.specs.Lists.{Bytes, is_some_with}
@@ -20,8 +21,9 @@ use Rattle.pp_law.specs.State.{State, Client, Stage, Undecided, Waiting, Passing
 use Rattle.pp_law.specs.Table.{source_of, Next, next_from, next_of}
 use Rattle.pp_laws.proofs.Tests.{fourth_holds, same_bytes, second_holds}
 use Rattle.pp_laws_replies.specs.Replies.{interim_to}
+use Rattle.pp_laws_replies.specs.Shown.{span_shown}
 use Rattle.pp_laws_replies.proofs.QuietAsks.{on_passed-quiet}
-use Rattle.pp_laws_replies.proofs.Stories.{Follows, Told, place_on, still_follows, Begun, a_page, a_kept, a_passed, Chosen, Now, undecided, waiting, chosen, begun, Story}
+use Rattle.pp_laws_replies.proofs.Stories.{Follows, Told, place_on, still_follows, Begun, a_page, a_kept, a_passed, not_passing, Chosen, Now, undecided, waiting, chosen, begun, Story}
 
 -- ---- a step: bytes are said
 
@@ -185,25 +187,63 @@ grown last bytes il left is = append_assoc last bytes left ∙ ap (λ l. last ++
 same_reply : (c : Client) (r q : Reply) → c.stage ≡ Answering r → c.stage ≡ Answering q → r ≡ q
 same_reply c r q one two = let both : Answering r ≡ Answering q = sym one ∙ two in cc
 
-head_moved : (f : Front) (closes : Bool) (r : Reply) (left head body : Bytes) → Begun f closes r head body → Begun f closes (record r { head_left = left }) head body
-head_moved f closes r left head body (a_page status isnt_on to is none end) = a_page status isnt_on to is none end
-head_moved f closes r left head body (a_kept q front isnt_on k long end) = a_kept q front isnt_on k long end
+head_moved : {instances : List Instance} {next_instance : ℕ} (f : Front) (closes : Bool) (r : Reply) (left head body : Bytes) → Begun instances next_instance f closes r head body → Begun instances next_instance f closes (record r { head_left = left }) head body
+head_moved f closes r left head body (a_page status is_decided to is none end) = a_page status is_decided to is none end
+head_moved f closes r left head body (a_kept q front by k given end) =
+    a_kept q front by (record {
+      version = k.version;
+      kind = k.kind;
+      is_decided = k.is_decided;
+      fields = k.fields;
+      age = k.age;
+      name = k.name;
+      spelled = k.spelled;
+      place = k.place;
+      order = k.order;
+      end = k.end;
+      within = k.within;
+      still_to_say = k.still_to_say;
+      source = k.source;
+    }) given end
 head_moved f closes r left head body (a_passed q front is_on is end) = a_passed q front is_on is end
 
-passed_more : (f : Front) (closes : Bool) (r : Reply) (head body bytes : Bytes) → is_passing r.decision ≡ true → Begun f closes r head body → Begun f closes r head (body ++ bytes)
-passed_more f closes r head body bytes is_on (a_page status isnt_on to is none end) = let both : false ≡ true = sym isnt_on ∙ is_on in absurd (cc both)
-passed_more f closes r head body bytes is_on (a_kept q front isnt_on k long end) = let both : false ≡ true = sym isnt_on ∙ is_on in absurd (cc both)
+passed_more : {instances : List Instance} {next_instance : ℕ} (f : Front) (closes : Bool) (r : Reply) (head body bytes : Bytes) → is_passing r.decision ≡ true → Begun instances next_instance f closes r head body
+    → Begun instances next_instance f closes r head (body ++ bytes)
+passed_more f closes r head body bytes is_on (a_page status is_decided to is none end) = let both : false ≡ true = sym (ap is_passing is_decided) ∙ is_on in absurd (cc both)
+passed_more f closes r head body bytes is_on (a_kept q front by k given end) = let both : false ≡ true = sym (not_passing r.decision by) ∙ is_on in absurd (cc both)
 passed_more f closes r head body bytes is_on (a_passed q front too is end) = a_passed q front too is end
 
 no_bytes : (bytes : Bytes) (n : ℕ) → length bytes ≤ 0 - n → bytes ≡ []
 no_bytes [] n le = refl
 no_bytes (b ∷ bytes) n le = let long : suc (length bytes) ≤ 0 - n = le in absurd (omega arith)
 
-body_more : (f : Front) (closes : Bool) (r : Reply) (head body bytes : Bytes) → is_passing r.decision ≡ false → length bytes ≤ r.to - r.at → Begun f closes r head body → Begun f closes (record r { at = r.at + length bytes }) head (body ++ bytes)
-body_more f closes r head body bytes isnt_on le (a_page status off to is none end) =
-    a_page status off to is (ap (λ l. l ++ bytes) none ∙ no_bytes bytes r.at (subst (λ n. length bytes ≤ n - r.at) to le)) end
-body_more f closes r head body bytes isnt_on le (a_kept q front off k long end) = a_kept q front off k (sym (sum (length body) (length bytes) (length (body ++ bytes)) r.to r.at le (length-append body bytes)) ∙ long) end
+body_more : {instances : List Instance} {next_instance : ℕ} (f : Front) (closes : Bool) (r : Reply) (head body bytes : Bytes) → is_passing r.decision ≡ false → length bytes ≤ r.to - r.at → Begun instances next_instance f closes r head body
+    → Begun instances next_instance f closes (record r { at = r.at + length bytes }) head (body ++ bytes)
+body_more f closes r head body bytes isnt_on le (a_page status is_decided to is none end) =
+    a_page status is_decided to is (ap (λ l. l ++ bytes) none ∙ no_bytes bytes r.at (subst (λ n. length bytes ≤ n - r.at) to le)) end
+body_more f closes r head body bytes isnt_on le (a_kept q front by k given end) =
+    a_kept q front by (record {
+      version = k.version;
+      kind = k.kind;
+      is_decided = k.is_decided;
+      fields = k.fields;
+      age = k.age;
+      name = k.name;
+      spelled = k.spelled;
+      place = further (span_shown k.kind k.version.length).0 (length body) (length bytes) (length (body ++ bytes)) r.at k.place (length-append body bytes);
+      order = no_further (length bytes) r.at r.to k.order le;
+      end = k.end;
+      within = k.within;
+      still_to_say = sym (sum (length body) (length bytes) (length (body ++ bytes)) r.to r.at le (length-append body bytes)) ∙ k.still_to_say;
+      source = k.source;
+    }) given end
   where
+    further : (f a b m at : ℕ) → f + a ≡ at → m ≡ a + b → f + m ≡ at + b
+    further f a b m at e1 e2 = omega arith
+
+    no_further : (b at to : ℕ) → at ≤ to → b ≤ to - at → at + b ≤ to
+    no_further b at to e1 e2 = omega arith
+
     sum : (a b m to at : ℕ) → b ≤ to - at → m ≡ a + b → a + (to - at) ≡ m + (to - (at + b))
     sum a b m to at small eq = omega arith
 body_more f closes r head body bytes isnt_on le (a_passed q front is_on is end) = let both : false ≡ true = sym isnt_on ∙ is_on in absurd (cc both)
@@ -215,39 +255,40 @@ both_said last il hl whole bytes jl kl i h j k is =
     ∙ ap (λ l. l ++ bytes) (sym (append-nil last) ∙ sym (append-nil (last ++ [])) ∙ ap (λ l. (last ++ l) ++ []) (sym i) ∙ ap (λ l. (last ++ il) ++ l) (sym h) ∙ is)
 
 -- of a reply that has begun
-pub record InMidst (c : Client) (last : Bytes) (r : Reply) : Type 0 where
+pub record InMidst (instances : List Instance) (next_instance : ℕ) (decided : Option Decision) (c : Client) (last : Bytes) (r : Reply) : Type 0 where
   pub is_on : r.has_begun ≡ true
+  pub taken : decided ≡ Some r.decision
   pub has : has_request c.front ≡ true
   pub head : Bytes
   pub body : Bytes
   pub is : (last ++ c.interim_left) ++ r.head_left ≡ (interim_to c.front ++ head) ++ body
   pub rest : (body ≡ []) ⊎ ((c.interim_left ≡ []) × (r.head_left ≡ []))
-  pub what : Begun c.front c.closes r head body
+  pub what : Begun instances next_instance c.front c.closes r head body
 
-midst : (instances : List Instance) (next_instance : ℕ) (c : Client) (last : Bytes) (r : Reply) → c.stage ≡ Answering r → r.has_begun ≡ true → Now instances next_instance c last → InMidst c last r
-midst instances next_instance c last r at on (undecided stage none is) = let both : Undecided ≡ Answering r = sym stage ∙ at in absurd (cc both)
-midst instances next_instance c last r at on (waiting (inl stage) has is) = let both : Waiting ≡ Answering r = sym stage ∙ at in absurd (cc both)
-midst instances next_instance c last r at on (waiting (inr stage) has is) = let both : Passing ≡ Answering r = sym stage ∙ at in absurd (cc both)
-midst instances next_instance c last r at on (chosen q stage isnt_on has is what) =
+midst : (instances : List Instance) (next_instance : ℕ) (decided : Option Decision) (c : Client) (last : Bytes) (r : Reply) → c.stage ≡ Answering r → r.has_begun ≡ true → Now instances next_instance decided c last → InMidst instances next_instance decided c last r
+midst instances next_instance decided c last r at on (undecided stage none is) = let both : Undecided ≡ Answering r = sym stage ∙ at in absurd (cc both)
+midst instances next_instance decided c last r at on (waiting (inl stage) has is) = let both : Waiting ≡ Answering r = sym stage ∙ at in absurd (cc both)
+midst instances next_instance decided c last r at on (waiting (inr stage) has is) = let both : Passing ≡ Answering r = sym stage.0 ∙ at in absurd (cc both)
+midst instances next_instance decided c last r at on (chosen q stage isnt_on taken has is what) =
     let both : false ≡ true = sym isnt_on ∙ ap (λ (x : Reply). x.has_begun) (same_reply c q r stage at) ∙ on in absurd (cc both)
-midst instances next_instance c last r at on (begun q stage is_on has head body is rest what) =
-    subst (λ (x : Reply). InMidst c last x) (same_reply c q r stage at) (record { is_on = is_on; has = has; head = head; body = body; is = is; rest = rest; what = what })
+midst instances next_instance decided c last r at on (begun q stage is_on taken has head body is rest what) =
+    subst (λ (x : Reply). InMidst instances next_instance decided c last x) (same_reply c q r stage at) (record { is_on = is_on; taken = taken; has = has; head = head; body = body; is = is; rest = rest; what = what })
 
 at_front : (f g : Front) (head body : Bytes) → g ≡ f → (interim_to f ++ head) ++ body ≡ (interim_to g ++ head) ++ body
 at_front f g head body is = sym (ap (λ h. (interim_to h ++ head) ++ body) is)
 
-interim_said : (instances : List Instance) (next_instance : ℕ) (c d : Client) (last bytes : Bytes) → d.closes ≡ c.closes → d.front ≡ c.front → d.stage ≡ c.stage → bytes ++ d.interim_left ≡ c.interim_left → ¬ (c.interim_left ≡ [])
-    → Now instances next_instance c last → Now instances next_instance d (last ++ bytes)
-interim_said instances next_instance c d last bytes end front stage left some (undecided at none is) = absurd (some none)
-interim_said instances next_instance c d last bytes end front stage left some (waiting (inl at) has is) =
+interim_said : (instances : List Instance) (next_instance : ℕ) (decided : Option Decision) (c d : Client) (last bytes : Bytes) → d.closes ≡ c.closes → d.front ≡ c.front → d.stage ≡ c.stage → bytes ++ d.interim_left ≡ c.interim_left → ¬ (c.interim_left ≡ [])
+    → Now instances next_instance decided c last → Now instances next_instance decided d (last ++ bytes)
+interim_said instances next_instance decided c d last bytes end front stage left some (undecided at none is) = absurd (some none)
+interim_said instances next_instance decided c d last bytes end front stage left some (waiting (inl at) has is) =
     waiting (inl (stage ∙ at)) (ap has_request front ∙ has) (grown last bytes c.interim_left d.interim_left left ∙ is ∙ sym (ap interim_to front))
-interim_said instances next_instance c d last bytes end front stage left some (waiting (inr at) has is) =
-    waiting (inr (stage ∙ at)) (ap has_request front ∙ has) (grown last bytes c.interim_left d.interim_left left ∙ is ∙ sym (ap interim_to front))
-interim_said instances next_instance c d last bytes end front stage left some (chosen r at isnt_on has is what) =
-    chosen r (stage ∙ at) isnt_on (ap has_request front ∙ has) (grown last bytes c.interim_left d.interim_left left ∙ is ∙ sym (ap interim_to front)) (subst (λ f. Chosen instances next_instance f d.closes r) (sym front) (subst (λ t. Chosen instances next_instance c.front t r) (sym end) what))
-interim_said instances next_instance c d last bytes end front stage left some (begun r at is_on has head body is rest what) =
-    begun r (stage ∙ at) is_on (ap has_request front ∙ has) head body (ap (λ l. l ++ r.head_left) (grown last bytes c.interim_left d.interim_left left) ∙ is ∙ at_front c.front d.front head body front) (inl (none rest))
-    (subst (λ f. Begun f d.closes r head body) (sym front) (subst (λ t. Begun c.front t r head body) (sym end) what))
+interim_said instances next_instance decided c d last bytes end front stage left some (waiting (inr at) has is) =
+    waiting (inr (stage ∙ at.0, at.1)) (ap has_request front ∙ has) (grown last bytes c.interim_left d.interim_left left ∙ is ∙ sym (ap interim_to front))
+interim_said instances next_instance decided c d last bytes end front stage left some (chosen r at isnt_on taken has is what) =
+    chosen r (stage ∙ at) isnt_on taken (ap has_request front ∙ has) (grown last bytes c.interim_left d.interim_left left ∙ is ∙ sym (ap interim_to front)) (subst (λ f. Chosen instances next_instance f d.closes r) (sym front) (subst (λ t. Chosen instances next_instance c.front t r) (sym end) what))
+interim_said instances next_instance decided c d last bytes end front stage left some (begun r at is_on taken has head body is rest what) =
+    begun r (stage ∙ at) is_on taken (ap has_request front ∙ has) head body (ap (λ l. l ++ r.head_left) (grown last bytes c.interim_left d.interim_left left) ∙ is ∙ at_front c.front d.front head body front) (inl (none rest))
+    (subst (λ f. Begun instances next_instance f d.closes r head body) (sym front) (subst (λ t. Begun instances next_instance c.front t r head body) (sym end) what))
   where
     none : (body ≡ []) ⊎ ((c.interim_left ≡ []) × (r.head_left ≡ [])) → body ≡ []
     none (inl is_none) = is_none
@@ -259,53 +300,53 @@ head_said last il hl bytes left jl whole i j eq is =
     ∙ ap (λ l. l ++ hl) (sym (append-nil last) ∙ ap (λ l. last ++ l) (sym i)) ∙ is
 
 -- where nothing was said
-nothing_said : (instances : List Instance) (next_instance : ℕ) (c d : Client) (last : Bytes) → d.closes ≡ c.closes → d.front ≡ c.front → d.stage ≡ c.stage → d.interim_left ≡ c.interim_left → Now instances next_instance c last → Now instances next_instance d last
-nothing_said instances next_instance c d last end front stage left (undecided at none is) = undecided (stage ∙ at) (left ∙ none) is
-nothing_said instances next_instance c d last end front stage left (waiting (inl at) has is) =
+nothing_said : (instances : List Instance) (next_instance : ℕ) (decided : Option Decision) (c d : Client) (last : Bytes) → d.closes ≡ c.closes → d.front ≡ c.front → d.stage ≡ c.stage → d.interim_left ≡ c.interim_left → Now instances next_instance decided c last → Now instances next_instance decided d last
+nothing_said instances next_instance decided c d last end front stage left (undecided at none is) = undecided (stage ∙ at) (left ∙ none) is
+nothing_said instances next_instance decided c d last end front stage left (waiting (inl at) has is) =
     waiting (inl (stage ∙ at)) (ap has_request front ∙ has) (ap (λ l. last ++ l) left ∙ is ∙ sym (ap interim_to front))
-nothing_said instances next_instance c d last end front stage left (waiting (inr at) has is) =
-    waiting (inr (stage ∙ at)) (ap has_request front ∙ has) (ap (λ l. last ++ l) left ∙ is ∙ sym (ap interim_to front))
-nothing_said instances next_instance c d last end front stage left (chosen r at isnt_on has is what) =
-    chosen r (stage ∙ at) isnt_on (ap has_request front ∙ has) (ap (λ l. last ++ l) left ∙ is ∙ sym (ap interim_to front)) (subst (λ f. Chosen instances next_instance f d.closes r) (sym front) (subst (λ t. Chosen instances next_instance c.front t r) (sym end) what))
-nothing_said instances next_instance c d last end front stage left (begun r at is_on has head body is rest what) =
-    begun r (stage ∙ at) is_on (ap has_request front ∙ has) head body (ap (λ l. (last ++ l) ++ r.head_left) left ∙ is ∙ at_front c.front d.front head body front) (at_end rest)
-    (subst (λ f. Begun f d.closes r head body) (sym front) (subst (λ t. Begun c.front t r head body) (sym end) what))
+nothing_said instances next_instance decided c d last end front stage left (waiting (inr at) has is) =
+    waiting (inr (stage ∙ at.0, at.1)) (ap has_request front ∙ has) (ap (λ l. last ++ l) left ∙ is ∙ sym (ap interim_to front))
+nothing_said instances next_instance decided c d last end front stage left (chosen r at isnt_on taken has is what) =
+    chosen r (stage ∙ at) isnt_on taken (ap has_request front ∙ has) (ap (λ l. last ++ l) left ∙ is ∙ sym (ap interim_to front)) (subst (λ f. Chosen instances next_instance f d.closes r) (sym front) (subst (λ t. Chosen instances next_instance c.front t r) (sym end) what))
+nothing_said instances next_instance decided c d last end front stage left (begun r at is_on taken has head body is rest what) =
+    begun r (stage ∙ at) is_on taken (ap has_request front ∙ has) head body (ap (λ l. (last ++ l) ++ r.head_left) left ∙ is ∙ at_front c.front d.front head body front) (at_end rest)
+    (subst (λ f. Begun instances next_instance f d.closes r head body) (sym front) (subst (λ t. Begun instances next_instance c.front t r head body) (sym end) what))
   where
     at_end : (body ≡ []) ⊎ ((c.interim_left ≡ []) × (r.head_left ≡ [])) → (body ≡ []) ⊎ ((d.interim_left ≡ []) × (r.head_left ≡ []))
     at_end (inl none) = inl none
     at_end (inr both) = inr (left ∙ both.0, both.1)
 
-now_said : (instances : List Instance) (next_instance : ℕ) (c d : Client) (last bytes : Bytes) → d.closes ≡ c.closes → Step c d bytes → Now instances next_instance c last → Now instances next_instance d (last ++ bytes)
-now_said instances next_instance c d last bytes end (of_nothing front stage left none) now =
-    subst (λ l. Now instances next_instance d l) (sym (ap (λ l. last ++ l) none ∙ append-nil last)) (nothing_said instances next_instance c d last end front stage left now)
-now_said instances next_instance c d last bytes end (of_interim front stage left some) now = interim_said instances next_instance c d last bytes end front stage left some now
-now_said instances next_instance c d last bytes end (of_head r left front at on stage il jl eq some) now =
-    let m = midst instances next_instance c last r at on now in
-    begun (record r { head_left = left }) stage on (ap has_request front ∙ m.has) m.head m.body
+now_said : (instances : List Instance) (next_instance : ℕ) (decided : Option Decision) (c d : Client) (last bytes : Bytes) → d.closes ≡ c.closes → Step c d bytes → Now instances next_instance decided c last → Now instances next_instance decided d (last ++ bytes)
+now_said instances next_instance decided c d last bytes end (of_nothing front stage left none) now =
+    subst (λ l. Now instances next_instance decided d l) (sym (ap (λ l. last ++ l) none ∙ append-nil last)) (nothing_said instances next_instance decided c d last end front stage left now)
+now_said instances next_instance decided c d last bytes end (of_interim front stage left some) now = interim_said instances next_instance decided c d last bytes end front stage left some now
+now_said instances next_instance decided c d last bytes end (of_head r left front at on stage il jl eq some) now =
+    let m = midst instances next_instance decided c last r at on now in
+    begun (record r { head_left = left }) stage on m.taken (ap has_request front ∙ m.has) m.head m.body
     (head_said last c.interim_left r.head_left bytes left d.interim_left _ il jl eq m.is ∙ at_front c.front d.front m.head m.body front) (inl (none m.body m.rest))
-    (subst (λ f. Begun f d.closes (record r { head_left = left }) m.head m.body) (sym front) (head_moved c.front d.closes r left m.head m.body (subst (λ t. Begun c.front t r m.head m.body) (sym end) m.what)))
+    (subst (λ f. Begun instances next_instance f d.closes (record r { head_left = left }) m.head m.body) (sym front) (head_moved c.front d.closes r left m.head m.body (subst (λ t. Begun instances next_instance c.front t r m.head m.body) (sym end) m.what)))
   where
     none : (body : Bytes) → (body ≡ []) ⊎ ((c.interim_left ≡ []) × (r.head_left ≡ [])) → body ≡ []
     none body (inl is_none) = is_none
     none body (inr both) = absurd (some both.1)
-now_said instances next_instance c d last bytes end (of_passed r front at on stage il jl hl passing) now =
-    let m = midst instances next_instance c last r at on now in
-    begun r (stage ∙ at) on (ap has_request front ∙ m.has) m.head (m.body ++ bytes)
+now_said instances next_instance decided c d last bytes end (of_passed r front at on stage il jl hl passing) now =
+    let m = midst instances next_instance decided c last r at on now in
+    begun r (stage ∙ at) on m.taken (ap has_request front ∙ m.has) m.head (m.body ++ bytes)
     (both_said last c.interim_left r.head_left _ bytes d.interim_left r.head_left il hl jl hl m.is ∙ append_assoc (interim_to c.front ++ m.head) m.body bytes ∙ at_front c.front d.front m.head (m.body ++ bytes) front)
     (inr (jl, hl))
-    (subst (λ f. Begun f d.closes r m.head (m.body ++ bytes)) (sym front) (passed_more c.front d.closes r m.head m.body bytes passing (subst (λ t. Begun c.front t r m.head m.body) (sym end) m.what)))
-now_said instances next_instance c d last bytes end (of_body r front at on stage il jl hl isnt_on le) now =
-    let m = midst instances next_instance c last r at on now in
-    begun (record r { at = r.at + length bytes }) stage on (ap has_request front ∙ m.has) m.head (m.body ++ bytes)
+    (subst (λ f. Begun instances next_instance f d.closes r m.head (m.body ++ bytes)) (sym front) (passed_more c.front d.closes r m.head m.body bytes passing (subst (λ t. Begun instances next_instance c.front t r m.head m.body) (sym end) m.what)))
+now_said instances next_instance decided c d last bytes end (of_body r front at on stage il jl hl isnt_on le) now =
+    let m = midst instances next_instance decided c last r at on now in
+    begun (record r { at = r.at + length bytes }) stage on m.taken (ap has_request front ∙ m.has) m.head (m.body ++ bytes)
     (both_said last c.interim_left r.head_left _ bytes d.interim_left r.head_left il hl jl hl m.is ∙ append_assoc (interim_to c.front ++ m.head) m.body bytes ∙ at_front c.front d.front m.head (m.body ++ bytes) front)
     (inr (jl, hl))
-    (subst (λ f. Begun f d.closes (record r { at = r.at + length bytes }) m.head (m.body ++ bytes)) (sym front) (body_more c.front d.closes r m.head m.body bytes isnt_on le (subst (λ t. Begun c.front t r m.head m.body) (sym end) m.what)))
+    (subst (λ f. Begun instances next_instance f d.closes (record r { at = r.at + length bytes }) m.head (m.body ++ bytes)) (sym front) (body_more c.front d.closes r m.head m.body bytes isnt_on le (subst (λ t. Begun instances next_instance c.front t r m.head m.body) (sym end) m.what)))
 
-pub now_are : (instances : List Instance) (next_instance : ℕ) (c d : Client) (last bytes : Bytes) → d.closes ≡ c.closes → Steps c d bytes → Now instances next_instance c last → Now instances next_instance d (last ++ bytes)
-now_are instances next_instance c d last bytes end (of_one step) now = now_said instances next_instance c d last bytes end step now
-now_are instances next_instance c d last bytes end (of_both e head body same one two both) now =
-    subst (λ l. Now instances next_instance d l) (append_assoc last head body ∙ ap (λ l. last ++ l) (sym both))
-    (now_said instances next_instance e d (last ++ head) body (end ∙ sym same) two (now_said instances next_instance c e last head same one now))
+pub now_are : (instances : List Instance) (next_instance : ℕ) (decided : Option Decision) (c d : Client) (last bytes : Bytes) → d.closes ≡ c.closes → Steps c d bytes → Now instances next_instance decided c last → Now instances next_instance decided d (last ++ bytes)
+now_are instances next_instance decided c d last bytes end (of_one step) now = now_said instances next_instance decided c d last bytes end step now
+now_are instances next_instance decided c d last bytes end (of_both e head body same one two both) now =
+    subst (λ l. Now instances next_instance decided d l) (append_assoc last head body ∙ ap (λ l. last ++ l) (sym both))
+    (now_said instances next_instance decided e d (last ++ head) body (end ∙ sym same) two (now_said instances next_instance decided c e last head same one now))
 
 -- nothing is read with it
 reply_reads : (n : ℕ) (c : Client) (r : Reply) (passing : Bool)
@@ -313,24 +354,24 @@ reply_reads : (n : ℕ) (c : Client) (r : Reply) (passing : Bool)
       | true ↦ on_passed (λ p. record p { pipe = without_first n p.pipe }) (record c { stage = Answering r })
       | false ↦ record c { stage = Answering (record r { at = r.at + n }) }
     ]) c
-reply_reads n c r true = let q = on_passed-quiet (λ p. record p { pipe = without_first n p.pipe }) (record c { stage = Answering r }) in record { front = q.front; reads = q.reads }
-reply_reads n c r false = still_follows _ c refl refl refl refl
+reply_reads n c r true = let q = on_passed-quiet (λ p. record p { pipe = without_first n p.pipe }) (record c { stage = Answering r }) in record { index = q.index; front = q.front; reads = q.reads }
+reply_reads n c r false = still_follows _ c refl refl refl refl refl
 
 head_reads : (n : ℕ) (c : Client) (r : Reply) (of_head : Bool)
     → Follows (elim of_head as (λ x. Client) [
       | true ↦ record c { stage = Answering (record r { head_left = drop n r.head_left }) }
       | false ↦ said_of_body (n - length r.head_left) (record r { head_left = [] }) c
     ]) c
-head_reads n c r true = still_follows _ c refl refl refl refl
+head_reads n c r true = still_follows _ c refl refl refl refl refl
 head_reads n c r false = reply_reads (n - length r.head_left) c (record r { head_left = [] }) (is_passing r.decision)
 
 stage_reads : (n : ℕ) (c : Client) (reply : Option Reply) → Follows (elim reply as (λ x. Client) [ None ↦ c | Some r ↦ said_of n r c ]) c
-stage_reads n c None = still_follows _ c refl refl refl refl
+stage_reads n c None = still_follows _ c refl refl refl refl refl
 stage_reads n c (Some r) = head_reads n c r (nat_le n (length r.head_left))
 
 said_reads : (n : ℕ) (c : Client) (empty : Bool)
     → Follows (elim empty as (λ x. Client) [ false ↦ record c { interim_left = drop n c.interim_left } | true ↦ elim (reply_of c) as (λ y. Client) [ None ↦ c | Some r ↦ said_of n r c ] ]) c
-said_reads n c false = still_follows _ c refl refl refl refl
+said_reads n c false = still_follows _ c refl refl refl refl refl
 said_reads n c true = stage_reads n c (reply_of c)
 
 said_follows : (n : ℕ) (c : Client) → Follows (said_by n c) c
@@ -369,12 +410,14 @@ pub story_said : {instances : List Instance} {next_instance : ℕ} (told : Told)
     → Story instances next_instance (record told { said = told.said ++ bytes }) (said_by (length bytes) c)
 story_said {instances} {next_instance} told c bytes step story = record {
   requests = story.requests;
+  count = story.count ∙ sym (said_follows (length bytes) c).index;
   replies = story.replies;
   each = story.each;
   last = story.last ++ bytes;
   all = ap (λ l. l ++ bytes) story.all ∙ append_assoc (concat story.replies) story.last bytes;
   place = place_on told.heard story.requests (said_by (length bytes) c) c (said_follows (length bytes) c) story.place;
-  now = now_are instances next_instance c (said_by (length bytes) c) story.last bytes (said_closes (length bytes) c) step story.now;
+  now = subst (λ i. Now instances next_instance (told.decided i) (said_by (length bytes) c) (story.last ++ bytes)) (sym (said_follows (length bytes) c).index)
+      (now_are instances next_instance (told.decided c.index) c (said_by (length bytes) c) story.last bytes (said_closes (length bytes) c) step story.now);
 }
 
 -- ---- what is permitted

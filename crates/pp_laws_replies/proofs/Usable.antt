@@ -18,13 +18,13 @@ use Rattle.pp_world.specs.declared.note.Remark.TheVariants.{Taken}
 use Rattle.pp_law.specs.After.{after}
 use Rattle.pp_law.specs.Deciding.{is_for_memory}
 use Rattle.pp_law.specs.Decisions.{kind_of, begun_now, decide_for, decide_head, decide}
-use Rattle.pp_law.specs.Due.{give_up, is_told, has_lost_row, due_reply, due_by_stage, due_decision, due_cut, Due, Decide, CutOff, due_of, next_due}
+use Rattle.pp_law.specs.Due.{give_up, is_told, has_lost_row, due_reply, due_by_stage, due_decision, due_cut, Due, Decide, CutOff, next_due}
 use Rattle.pp_law.specs.Lawful.{Lawful, LawfulFrom}
 use Rattle.pp_law.specs.Lists.{Bytes, has_text, is_some_with}
 use Rattle.pp_law.specs.Permits.{is_permitted, IsPermitted, permits, is_same_decision, is_due_decision, may_want_memory, may_take, permits_taken}
 use Rattle.pp_law.specs.Phases.{decides, come_to_decide}
 use Rattle.pp_law.specs.Requests.{Front, Parsed, NoHeadYet, NoHead as NoFront, IsRequest, has_request, refusal_of}
-use Rattle.pp_law.specs.Stages.{is_begun}
+use Rattle.pp_law.specs.Stages.{is_begun, is_page}
 use Rattle.pp_law.specs.Sharing.{is_patient, due_first, due_undecided}
 use Rattle.pp_law.specs.State.{State, Term, Client, Course, Trying, OutOfTries, AskTooLong, RowRefused, Brought, Awaited, Useless, Joins, Passes, TooWide, Stage, Undecided, Waiting, Passing, Answering, Reply, Instance, Entry, Shared, start}
 use Rattle.pp_law.specs.Table.{is_row_of, is_entry_of, is_kept_row_of, row, kept_row, row_on_disk, row_for, of_instance, of_entry, is_instance, instance}
@@ -36,7 +36,7 @@ use Rattle.pp_laws.proofs.Lists.{in_find}
 use Rattle.pp_laws.proofs.Sound.{Follows, Since, Sound, facts_of, source_in}
 use Rattle.pp_laws.proofs.Tests.{first_holds, second_holds, same_bytes, same_number}
 use Rattle.pp_laws_replies.specs.ByRow.{is_by_row, IsKnownOf, WasChecked, IsUsable, Asker, RowsAreFreshOrChecked, SourcesAreOfTheKey}
-use Rattle.pp_laws_replies.proofs.ByRowLemmas.{same_decision, same_or, HasRow, has_row, fitting}
+use Rattle.pp_laws_replies.proofs.ByRowLemmas.{no_page, same_decision, same_or, HasRow, has_row, fitting}
 
 -- ---- the row that a decision sees
 
@@ -119,9 +119,6 @@ ready_by : (a b : Bool) → (a || b) ≡ true → (b ≡ true) ⊎ (a ≡ true)
 ready_by true b is = inr refl
 ready_by false b is = inl is
 
-refused : (status : ℕ) (d : Decision) → Refuse status ≡ d → is_by_row d ≡ true → ⊥
-refused status d is by = let both : false ≡ true = ap is_by_row is ∙ by in cc both
-
 -- a decision by the row of its key, which is known and ready
 pub record UsedRow (s : State) (c : Client) (d : Decision) : Type 0 where
   pub request : Parsed
@@ -171,24 +168,35 @@ used_for : (s : State) (c : Client) (r : Parsed) (key : Key) (d : Decision) → 
 used_for s c r key d by asks names is =
     let seen = row_for s r.head (text_of key) in
     let e = decision r.head seen (begun_now s c (text_of key)) s.clock in
-    used_row s c r key d asks names (has_row r.head seen (begun_now s c (text_of key)) s.clock d by (fitting s r.head key (kind_of r.head seen e) e d by is))
+    used_row s c r key d asks names (has_row r.head seen (begun_now s c (text_of key)) s.clock d by (fitting s r.head key (kind_of r.head seen e) e d (no_page d by) is))
 
-used_key : (s : State) (c : Client) (r : Parsed) (named : Result Key TargetFault) (d : Decision) → is_by_row d ≡ true → c.front ≡ IsRequest r → r.key ≡ named
-    → (elim named as (λ k. Decision) [ Ok key ↦ decide_for s c r.head key | Err fault ↦ Refuse 400 ]) ≡ d → UsedRow s c d
-used_key s c r (Ok key) d by asks names is = used_for s c r key d by asks names is
-used_key s c r (Err fault) d by asks names is = absurd (refused 400 d is by)
+-- of the key that its request names
+pub record KeyFor (s : State) (c : Client) (d : Decision) : Type 0 where
+  pub request : Parsed
+  pub asks : c.front ≡ IsRequest request
+  pub key : Key
+  pub names : request.key ≡ Ok key
+  pub made : decide_for s c request.head key ≡ d
 
-used_head : (s : State) (c : Client) (r : Parsed) (refusal : Option ℕ) (d : Decision) → is_by_row d ≡ true → c.front ≡ IsRequest r
+refused : (status : ℕ) (d : Decision) → Refuse status ≡ d → is_page d ≡ false → ⊥
+refused status d is isnt = let both : true ≡ false = ap is_page is ∙ isnt in cc both
+
+key_named : (s : State) (c : Client) (r : Parsed) (named : Result Key TargetFault) (d : Decision) → is_page d ≡ false → c.front ≡ IsRequest r → r.key ≡ named
+    → (elim named as (λ k. Decision) [ Ok key ↦ decide_for s c r.head key | Err fault ↦ Refuse 400 ]) ≡ d → KeyFor s c d
+key_named s c r (Ok key) d isnt asks names is = record { request = r; asks = asks; key = key; names = names; made = is }
+key_named s c r (Err fault) d isnt asks names is = absurd (refused 400 d is isnt)
+
+key_head : (s : State) (c : Client) (r : Parsed) (refusal : Option ℕ) (d : Decision) → is_page d ≡ false → c.front ≡ IsRequest r
     → (elim refusal as (λ o. Decision) [ Some status ↦ Refuse status | None ↦ elim r.key as (λ k. Decision) [ Ok key ↦ decide_for s c r.head key | Err fault ↦ Refuse 400 ] ]) ≡ d
-    → UsedRow s c d
-used_head s c r (Some status) d by asks is = absurd (refused status d is by)
-used_head s c r None d by asks is = used_key s c r r.key d by asks refl is
+    → KeyFor s c d
+key_head s c r (Some status) d isnt asks is = absurd (refused status d is isnt)
+key_head s c r None d isnt asks is = key_named s c r r.key d isnt asks refl is
 
-used_front : (s : State) (c : Client) (front : Front) (d : Decision) → c.front ≡ front → is_by_row d ≡ true
-    → (elim front as (λ f. Option Decision) [ NoHeadYet ↦ None | NoFront status ↦ Some (Refuse status) | IsRequest r ↦ Some (decide_head s c r) ]) ≡ Some d → UsedRow s c d
-used_front s c NoHeadYet d asks by is = absurd (cc is)
-used_front s c (NoFront status) d asks by is = let e : Refuse status ≡ d = cc in absurd (refused status d e by)
-used_front s c (IsRequest r) d asks by is = let e : decide_head s c r ≡ d = cc in used_head s c r (refusal_of r) d by asks e
+key_front : (s : State) (c : Client) (front : Front) (d : Decision) → c.front ≡ front → is_page d ≡ false
+    → (elim front as (λ f. Option Decision) [ NoHeadYet ↦ None | NoFront status ↦ Some (Refuse status) | IsRequest r ↦ Some (decide_head s c r) ]) ≡ Some d → KeyFor s c d
+key_front s c NoHeadYet d asks isnt is = absurd (cc is)
+key_front s c (NoFront status) d asks isnt is = let e : Refuse status ≡ d = cc in absurd (refused status d e isnt)
+key_front s c (IsRequest r) d asks isnt is = let e : decide_head s c r ≡ d = cc in key_head s c r (refusal_of r) d isnt asks e
 
 -- ---- what is due
 
@@ -200,11 +208,11 @@ none_once : (b : Bool) (o : Option Decision) (d : Decision) → (elim b as (λ c
 none_once true o d is = absurd (cc is)
 none_once false o d is = is
 
-going_on : (course : Course) (o : Option Decision) (d : Decision) → is_by_row d ≡ true → give_up course o ≡ Some d → o ≡ Some d
-going_on (Trying n) o d by is = is
-going_on OutOfTries o d by is = let e : Refuse 502 ≡ d = cc in absurd (refused 502 d e by)
-going_on AskTooLong o d by is = let e : Refuse 431 ≡ d = cc in absurd (refused 431 d e by)
-going_on RowRefused o d by is = let e : Refuse 500 ≡ d = cc in absurd (refused 500 d e by)
+going_on : (course : Course) (o : Option Decision) (d : Decision) → is_page d ≡ false → give_up course o ≡ Some d → o ≡ Some d
+going_on (Trying n) o d isnt is = is
+going_on OutOfTries o d isnt is = let e : Refuse 502 ≡ d = cc in absurd (refused 502 d e isnt)
+going_on AskTooLong o d isnt is = let e : Refuse 431 ≡ d = cc in absurd (refused 431 d e isnt)
+going_on RowRefused o d isnt is = let e : Refuse 500 ≡ d = cc in absurd (refused 500 d e isnt)
 
 undecided_first : (s : State) (c : Client) (o : Option Decision) (d : Decision) → (elim o as (λ x. Option Decision) [ None ↦ None | Some e ↦ due_first s c e ]) ≡ Some d → o ≡ Some d
 undecided_first s c None d is = absurd (cc is)
@@ -218,28 +226,31 @@ undecided_by : (s : State) (c : Client) (waits : Option Shared) (d : Decision)
 undecided_by s c (Some w) d is = none_once (is_patient s w) (decide s c) d is
 undecided_by s c None d is = undecided_first s c (decide s c) d is
 
-reply_by : (s : State) (c : Client) (r : Reply) (d : Decision) (begun : Bool) → is_by_row d ≡ true
+reply_by : (s : State) (c : Client) (r : Reply) (d : Decision) (begun : Bool) → is_page d ≡ false
     → (elim begun as (λ x. Option Decision) [ true ↦ None | false ↦ give_up c.course (elim (has_lost_row s r) as (λ x. Option Decision) [ true ↦ decide s c | false ↦ None ]) ]) ≡ Some d → decide s c ≡ Some d
-reply_by s c r d true by is = absurd (cc is)
-reply_by s c r d false by is = none_before (has_lost_row s r) (decide s c) d (going_on c.course _ d by is)
+reply_by s c r d true isnt is = absurd (cc is)
+reply_by s c r d false isnt is = none_before (has_lost_row s r) (decide s c) d (going_on c.course _ d isnt is)
 
-stage_by : (s : State) (c : Client) (stage : Stage) (d : Decision) → is_by_row d ≡ true
+stage_by : (s : State) (c : Client) (stage : Stage) (d : Decision) → is_page d ≡ false
     → (elim stage as (λ x. Option Decision) [
       | Undecided ↦ due_undecided s c
       | Waiting ↦ give_up c.course (elim (is_told c.brought) as (λ x. Option Decision) [ true ↦ decide s c | false ↦ None ])
       | Passing ↦ give_up c.course None
       | Answering r ↦ due_reply s c r
     ]) ≡ Some d → decide s c ≡ Some d
-stage_by s c Undecided d by is = undecided_by s c c.waits_on d is
-stage_by s c Waiting d by is = none_before (is_told c.brought) (decide s c) d (going_on c.course _ d by is)
-stage_by s c Passing d by is = let none : None ≡ Some d = going_on c.course None d by is in absurd (cc none)
-stage_by s c (Answering r) d by is = reply_by s c r d r.has_begun by is
+stage_by s c Undecided d isnt is = undecided_by s c c.waits_on d is
+stage_by s c Waiting d isnt is = none_before (is_told c.brought) (decide s c) d (going_on c.course _ d isnt is)
+stage_by s c Passing d isnt is = let none : None ≡ Some d = going_on c.course None d isnt is in absurd (cc none)
+stage_by s c (Answering r) d isnt is = reply_by s c r d r.has_begun isnt is
 
-due_decided : (s : State) (c : Client) (d : Decision) → is_by_row d ≡ true → due_decision s c ≡ Some d → decide s c ≡ Some d
-due_decided s c d by is = stage_by s c c.stage d by (none_once (c.is_closing || s.is_stopped) (due_by_stage s c) d is)
+due_decided : (s : State) (c : Client) (d : Decision) → is_page d ≡ false → due_decision s c ≡ Some d → decide s c ≡ Some d
+due_decided s c d isnt is = stage_by s c c.stage d isnt (none_once (c.is_closing || s.is_stopped) (due_by_stage s c) d is)
+
+pub due_key : (s : State) (c : Client) (d : Decision) → is_page d ≡ false → due_decision s c ≡ Some d → KeyFor s c d
+due_key s c d isnt is = key_front s c c.front d refl isnt (due_decided s c d isnt is)
 
 pub due_used : (s : State) (c : Client) (d : Decision) → is_by_row d ≡ true → due_decision s c ≡ Some d → UsedRow s c d
-due_used s c d by is = used_front s c c.front d refl by (due_decided s c d by is)
+due_used s c d by is = let k = due_key s c d (no_page d by) is in used_for s c k.request k.key d by k.asks k.names k.made
 
 -- ---- the first that is due
 
@@ -272,7 +283,7 @@ three true true false is = absurd (cc is)
 three true false c is = absurd (cc is)
 three false b c is = absurd (cc is)
 
--- for request i of client n, of which a decision was due, and this one where it is by a row
+-- for request i of client n, of which a decision was due, and this one where it is no page
 pub record TakenFor (s : State) (n i : ℕ) (d : Decision) : Type 0 where
   pub one : Client
   pub there : IsIn one s.clients
@@ -280,6 +291,7 @@ pub record TakenFor (s : State) (n i : ℕ) (d : Decision) : Type 0 where
   pub index : one.index ≡ i
   pub due : Decision
   pub is : due_decision s one ≡ Some due
+  pub is_it : is_page d ≡ false → due ≡ d
   pub same : is_by_row d ≡ true → due ≡ d
 
 due_for : (s : State) (due : Option Due) (n i : ℕ) (d : Decision) → next_due s ≡ due → is_due_decision s due n i d ≡ true → TakenFor s n i d
@@ -289,6 +301,7 @@ due_for s (Some (Decide m j due)) n i d has is =
     let f = next_in s (Decide m j due) has in
     let w = due_by s f.0 (due_cut s f.0) m j due f.2 in
     let h = three (m == n) (j == i) (is_same_decision due d || (is_same_decision d (Refuse 500) && may_want_memory s n)) is in
+    let it : is_page d ≡ false → due ≡ d = λ isnt. same_decision due d (same_or due d (may_want_memory s n) h.2 isnt) isnt in
     record {
       one = f.0;
       there = f.1;
@@ -296,7 +309,8 @@ due_for s (Some (Decide m j due)) n i d has is =
       index = w.index ∙ same_number j i h.1;
       due = due;
       is = w.due;
-      same = λ by. same_decision due d (same_or due d (may_want_memory s n) h.2 by) by;
+      is_it = it;
+      same = λ by. it (no_page d by);
     }
 
 taken_by : (s : State) (n i : ℕ) (d : Decision) (may : Bool) → (elim may as (λ c. Bool) [ true ↦ may_take (come_to_decide s) n i d | false ↦ false ]) ≡ true → TakenFor (come_to_decide s) n i d

@@ -1,5 +1,5 @@
 -- The laws' words on worked logs: what they hold of, and what they refuse.
-use Rattle.std.proofs.Common.{◌≡◌, ◌⊎◌, refl, ℕ, ◌+◌, ◌≤◌, nat_le, Bool, true, false, ◌==◌, ◌&&◌, not, List, [], ◌∷◌, ◌++◌, length, codes, None, inl, inr, sym, subst, ap, ◌∙◌, length-append, arith}
+use Rattle.std.proofs.Common.{◌≡◌, ◌⊎◌, refl, ℕ, ◌+◌, ◌≤◌, nat_le, Bool, true, false, ◌==◌, List, [], ◌∷◌, ◌++◌, length, codes, Option, None, inl, inr, sym, subst, ap, ◌∙◌, length-append, arith}
 use Rattle.std.proofs.lemmas.Bool.Decides.{nat_tests}
 use Rattle.std.specs.List.{concat}
 use Rattle.pp_framing.specs.declared.body.BodyRule.TheVariants.{Length}
@@ -9,6 +9,7 @@ use Rattle.pp_world.specs.Log.{Log}
 use Rattle.pp_world.specs.Streams.{heard, said}
 use Rattle.pp_world.specs.declared.happening.Happening.{Happening}
 use Rattle.pp_world.specs.declared.happening.Happening.TheVariants.{Woke, Waits, CanRead, CanWrite, Clock, Opened, Heard, Said, Shut, Dialled, Reached, Asked, Got, Noted, Rooted, Listed, Listens}
+use Rattle.pp_world.specs.declared.note.Decision.{Decision}
 use Rattle.pp_world.specs.declared.note.Decision.TheVariants.{Refuse, Pass}
 use Rattle.pp_world.specs.declared.note.Remark.TheVariants.{Taken}
 use Rattle.pp_law.proofs.OnLiterals.{pp_law_on_literals}
@@ -16,7 +17,7 @@ use Rattle.pp_law.specs.Lawful.{first_fault}
 use Rattle.pp_law.specs.Lists.{Bytes}
 use Rattle.pp_law.specs.Requests.{Front, Parsed, NoHeadYet, NoHead as NoFront, IsRequest, front_of, parsed_of}
 use Rattle.pp_law.specs.State.{Term}
-use Rattle.pp_laws_replies.specs.Replies.{head_len, IsFrontAt, IsReply, is_page, is_kept, is_passed, IsWholeReply, IsFrontOfReply, before, within, AreHeard, AreReplies, SaysInOrder}
+use Rattle.pp_laws_replies.specs.Replies.{head_len, taken, IsFrontAt, IsPassedHead, IsReply, is_page, is_kept, is_passed, IsWholeReply, IsFrontOfReply, before, within, AreHeard, AreReplies, SaysInOrder}
 
 -- runs of one chunk, asks that are pipelined, and four connections to a host
 abbrev pub small_words : List Bytes
@@ -95,16 +96,18 @@ relayed_is_lawful : first_fault one_life relayed ≡ None
 unfolding pp_law_on_literals
 relayed_is_lawful = refl
 
-relayed_whole : IsWholeReply (front_of request) (passed ++ codes "hello")
+relayed_whole : IsWholeReply (front_of request) (taken 1 relayed 0) (passed ++ codes "hello")
 unfolding pp_law_on_literals
 relayed_whole = record {
+  decision = Pass;
+  by = refl;
   head = passed;
   body = codes "hello";
   spelled = refl;
-  is = is_passed parsed refl (record { response = response; rule = Length 5; name = codes "polipo"; spelled = refl }) refl;
+  is = is_passed parsed refl refl (record { response = response; rule = Length 5; name = codes "polipo"; spelled = refl }) refl;
 }
 
-relayed_in_order : SaysInOrder (heard 1 relayed) (said 1 relayed)
+relayed_in_order : SaysInOrder (heard 1 relayed) (said 1 relayed) (taken 1 relayed)
 unfolding pp_law_on_literals heard said
 relayed_in_order = record {
   requests = front_of request ∷ [];
@@ -133,7 +136,7 @@ refused_is_lawful : first_fault one_life refused ≡ None
 unfolding pp_law_on_literals
 refused_is_lawful = refl
 
-refused_in_order : SaysInOrder (heard 1 refused) (said 1 refused)
+refused_in_order : SaysInOrder (heard 1 refused) (said 1 refused) (taken 1 refused)
 unfolding pp_law_on_literals heard said
 refused_in_order = record {
   requests = [];
@@ -142,25 +145,25 @@ refused_in_order = record {
   each = tt;
   next = NoFront 400;
   last = refusal;
-  front = within true refusal [] [] refl (inl refl) (is_page 400 refl refl refl);
+  front = within (Refuse 400) refl true refusal [] [] refl (inl refl) (is_page 400 refl refl refl refl);
   next_heard = inr ((400, refl), tt);
   all = refl;
 }
 
 -- no reply to it leaves the connection open
-always_closes : (f : Front) → IsFrontAt f (front_of bad) → (head body : Bytes) → IsReply f true false head body → ⊥
+always_closes : (f : Front) (d : Decision) → IsFrontAt f (front_of bad) → (head body : Bytes) → IsReply f d true false head body → ⊥
 unfolding pp_law_on_literals
-always_closes NoHeadYet at head body is = at
-always_closes (NoFront other) at head body (is_page status spelled none closes) = cc closes
-always_closes (NoFront other) at head body (is_kept r front k short long closes) = cc front
-always_closes (NoFront other) at head body (is_passed r front p closes) = cc front
-always_closes (IsRequest r) at head body is = cc at
+always_closes NoHeadYet d at head body is = at
+always_closes (NoFront other) d at head body (is_page status is_decided spelled none closes) = cc closes
+always_closes (NoFront other) d at head body (is_kept r front by k short long closes) = cc front
+always_closes (NoFront other) d at head body (is_passed r front is_on p closes) = cc front
+always_closes (IsRequest r) d at head body is = cc at
 
-no_whole : (fs : List Front) (texts : List Bytes) → AreHeard bad fs → AreReplies fs texts → (fs ≡ []) × (texts ≡ [])
-no_whole [] [] there each = (refl, refl)
-no_whole [] (t ∷ texts) there each = absurd each
-no_whole (f ∷ fs) [] there each = absurd each
-no_whole (f ∷ fs) (t ∷ texts) there each = absurd (always_closes f there.0 each.0.head each.0.body each.0.is)
+no_whole : (decided : ℕ → Option Decision) (fs : List Front) (texts : List Bytes) → AreHeard bad fs → AreReplies decided fs texts → (fs ≡ []) × (texts ≡ [])
+no_whole decided [] [] there each = (refl, refl)
+no_whole decided [] (t ∷ texts) there each = absurd each
+no_whole decided (f ∷ fs) [] there each = absurd each
+no_whole decided (f ∷ fs) (t ∷ texts) there each = absurd (always_closes f each.0.decision there.0 each.0.head each.0.body each.0.is)
 
 at_most : (a b : ℕ) → nat_le a b ≡ true → a ≤ b
 at_most a b le = grind (arith, nat_tests)
@@ -193,30 +196,36 @@ short_page status = at_most _ 200 (short_by (status == 400) (status == 411) (sta
 front_is_short : (text left whole : Bytes) (n : ℕ) → text ++ left ≡ whole → length whole ≤ n → length text ≤ n
 front_is_short text left whole n is le = let both : length text + length left ≡ length whole = sym (length-append text left) ∙ ap length is in omega arith
 
-one_page : (next : Front) (text : Bytes) → IsFrontAt next (front_of bad) → IsFrontOfReply next text → length text ≤ 200
+one_page : (next : Front) (o : Option Decision) (text : Bytes) → IsFrontAt next (front_of bad) → IsFrontOfReply next o text → length text ≤ 200
 unfolding pp_law_on_literals
-one_page NoHeadYet text at front = absurd at
-one_page (IsRequest r) text at front = absurd (cc at)
-one_page (NoFront other) text at (before left is) = front_is_short text left [] 200 is (omega arith)
-one_page (NoFront other) text at (within closes head body left is rest (is_page status spelled none ends)) =
+one_page NoHeadYet o text at front = absurd at
+one_page (IsRequest r) o text at front = absurd (cc at)
+one_page (NoFront other) o text at (before left is) = front_is_short text left [] 200 is (omega arith)
+one_page (NoFront other) o text at (within d was closes head body left is rest (is_page status is_decided spelled none ends)) =
     front_is_short text left (head ++ body) 200 is (subst (λ l. length (head ++ l) ≤ 200) (sym none) (subst (λ l. length (l ++ []) ≤ 200) (sym spelled) (front_is_short (page status false false ++ []) [] _ 200 refl (longer status))))
   where
     longer : (s : ℕ) → length ((page s false false ++ []) ++ []) ≤ 200
     longer s = let one = short_page s in let two = length-append (page s false false) [] in let three = length-append (page s false false ++ []) [] in omega arith
-one_page (NoFront other) text at (within closes head body left is rest (is_kept r front k short long ends)) = absurd (cc front)
-one_page (NoFront other) text at (within closes head body left is rest (is_passed r front p ends)) = absurd (cc front)
+one_page (NoFront other) o text at (within d was closes head body left is rest (is_kept r front by k short long ends)) = absurd (cc front)
+one_page (NoFront other) o text at (within d was closes head body left is rest (is_passed r front is_on p ends)) = absurd (cc front)
 
 two_are_longer : (text : Bytes) → refusal ++ refusal ≡ text → length text ≤ 200 → ⊥
 unfolding pp_law_on_literals
 two_are_longer text is le = let both : 218 ≡ length text = ap length is in omega arith
 
--- not even the same again
-never_twice : SaysInOrder bad (refusal ++ refusal) → ⊥
-never_twice w = by w.last w.next (subst (λ ts. refusal ++ refusal ≡ concat ts ++ w.last) none.1 w.all) w.front (subst (λ fs. (w.last ≡ []) ⊎ AreHeard bad (fs ++ w.next ∷ [])) none.0 w.next_heard)
+-- not even the same again, whatever was decided
+never_twice : (decided : ℕ → Option Decision) → SaysInOrder bad (refusal ++ refusal) decided → ⊥
+never_twice decided w = by w.last w.next (subst (λ ts. refusal ++ refusal ≡ concat ts ++ w.last) none.1 w.all) w.front (subst (λ fs. (w.last ≡ []) ⊎ AreHeard bad (fs ++ w.next ∷ [])) none.0 w.next_heard)
   where
     none : (w.requests ≡ []) × (w.replies ≡ [])
-    none = no_whole w.requests w.replies w.are_heard w.each
+    none = no_whole decided w.requests w.replies w.are_heard w.each
 
-    by : (last : Bytes) (next : Front) → refusal ++ refusal ≡ last → IsFrontOfReply next last → (last ≡ []) ⊎ AreHeard bad (next ∷ []) → ⊥
+    by : (last : Bytes) (next : Front) → refusal ++ refusal ≡ last → IsFrontOfReply next (decided (length w.requests)) last → (last ≡ []) ⊎ AreHeard bad (next ∷ []) → ⊥
     by last next is front (inl nothing) = two_are_longer last is (subst (λ l. length l ≤ 200) (sym nothing) (omega arith))
-    by last next is front (inr there) = two_are_longer last is (one_page next last there.0 front)
+    by last next is front (inr there) = two_are_longer last is (one_page next (decided (length w.requests)) last there.0 front)
+
+-- what was decided to be passed is not read from the cache
+never_kept : (whole closes : Bool) (head body : Bytes) → IsReply (front_of request) Pass whole closes head body → (p : Parsed) × IsPassedHead p head
+never_kept whole closes head body (is_page status is_decided spelled none ends) = absurd (cc is_decided)
+never_kept whole closes head body (is_kept r front by k short long ends) = absurd (cc by)
+never_kept whole closes head body (is_passed r front is_on p ends) = (r, p)

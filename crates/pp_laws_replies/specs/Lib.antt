@@ -1,2 +1,3 @@
 pub mod ByRow
 pub mod Replies
+pub mod Shown

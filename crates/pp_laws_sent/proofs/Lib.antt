@@ -4,6 +4,7 @@ mod Pieces
 mod Happenings
 mod Laws
 mod Coming
+pub mod Hosts
 mod Relayed
 mod Ours
 mod Arrived

@@ -181,7 +181,8 @@ asks_head_same : (e d : Exchange) → Alike e d → asks_head e ≡ asks_head d
 asks_head_same e d so = ap₂ (λ (aim : Aim) (head : Request). elim aim as (λ c. Bool) [ Through ↦ is_head head.method | Own ↦ false | Filling v from to ↦ false ]) so.aim so.head
 
 version_in_same : (e d : Exchange) (head : Response) → Alike e d → version_in e head ≡ version_in d head
-version_in_same e d head so = ap (λ (r : Request). version_of head.fields head.status (accepts_only_identity r.fields)) so.head
+version_in_same e d head so =
+    ap₂ (λ (aim : Aim) (r : Request). version_of head.fields head.status (elim aim as (λ c. Bool) [ Through ↦ accepts_only_identity r.fields | Own ↦ accepts_only_identity r.fields | Filling v from to ↦ true ])) so.aim so.head
 
 -- ---- what joins
 

@@ -14,6 +14,7 @@ use Rattle.pp_law.specs.State.{State, Sent, Term, Conn, Exchange}
 use Rattle.pp_world.specs.Log.{Log}
 use Rattle.pp_world.specs.Streams.{got}
 use Rattle.pp_laws.specs.Runs.{IsIn, state_after}
+use Rattle.pp_laws_lines.specs.Hosts.{WasDialled}
 
 -- the exchange stands in the line of that connection
 pub record IsAskedOn (s : State) (number : ℕ) (e : Exchange) : Type 0 where
@@ -29,6 +30,10 @@ pub record WasAskedOn (terms : List Term) (log : Log) (number : ℕ) (e : Exchan
   pub behind : Log
   pub parts : front ++ behind ≡ log
   pub then : IsAskedOn (state_after terms front) number e
+
+-- of each that was asked so: that connection was dialled to the host and port of its key
+abbrev pub AsksGoToTheirHosts : Type 0
+AsksGoToTheirHosts = (terms : List Term) (log : Log) (number : ℕ) (e : Exchange) → Lawful terms log → WasAskedOn terms log number e → WasDialled log number e.key.host e.key.port
 
 -- on a connection came a final head, as an exchange of its line asked, and behind it a body. Of that body's data these bytes are a
 -- part, at the offset and under the version that the head tells; and they are of the key of that very exchange, as it stood then

@@ -1,12 +1,17 @@
 // What was sent, in the log.
 ghost use Rattle.pp_laws_sent.specs.Coming.{BodiesAreLess};
 ghost use Rattle.pp_laws_sent.specs.Relayed.{PassedStandsInTheLog};
-ghost use Rattle.pp_laws_sent.specs.Stands.{SentStandsInTheLog};
+ghost use Rattle.pp_laws_sent.specs.Stands.{AsksGoToTheirHosts, SentStandsInTheLog};
 ghost use Rattle.pp_laws_sent.specs.Whole.{PassedIsOneSoFar, PassedIsOneWhole, SeenIsJustBefore};
 
 /// What an origin sent is data of a response that came on a connection.
 pub fn sent_stands_in_the_log()
     ensures stands { SentStandsInTheLog }
+{}
+
+/// Where an exchange stood in the line of a connection, that connection was dialled to the host and port of its key.
+pub fn asks_go_to_their_hosts()
+    ensures dialled { AsksGoToTheirHosts }
 {}
 
 /// While a client is in the midst of a reply that is passed, what came on the connection of its exchange ends with

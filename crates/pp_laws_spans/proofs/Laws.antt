@@ -9,14 +9,13 @@ use Rattle.pp_framing.specs.declared.framing.ResponseFault.{ResponseFault}
 use Rattle.pp_head.specs.Response.{Response}
 use Rattle.pp_plan.specs.Requests.{is_head}
 use Rattle.pp_text.specs.Fields.{Field}
-use Rattle.pp_valid.specs.Codings.{accepts_only_identity}
 use Rattle.pp_valid.specs.ContentRanges.{content_range_of}
 use Rattle.pp_valid.specs.Versions.{body_length}
 use Rattle.pp_valid.specs.declared.content_range.ContentRange.{ContentRange}
 use Rattle.pp_valid.specs.declared.content_range.ContentRange.TheVariants.{Span}
 use Rattle.pp_valid.specs.declared.version.Version.{Version}
 use Rattle.pp_law.specs.Lists.{Bytes}
-use Rattle.pp_law.specs.OwnHeads.{end_in, first_in, first_offset, range_in, version_in}
+use Rattle.pp_law.specs.OwnHeads.{asks_only_identity, end_in, first_in, first_offset, range_in, version_in}
 use Rattle.pp_law.specs.Responses.{asks_head}
 use Rattle.pp_law.specs.Stages.{is_through}
 use Rattle.pp_law.specs.State.{Aim, Through, Own, Filling, Exchange}
@@ -84,7 +83,7 @@ span_told head n (part is first last range told) =
     behind a b lt = omega arith
 
 span_in : (e : Exchange) (head : Response) (v : Version) → version_in e head ≡ Some v → SpanIn head v.length
-span_in e head v is = span_told head v.length (version_told head.fields head.status (accepts_only_identity e.head.fields) v is)
+span_in e head v is = span_told head v.length (version_told head.fields head.status (asks_only_identity e) v is)
 
 pub spans_within : SpansAreWithin
 spans_within e head v is = let s = span_in e head v is in record {

@@ -2,7 +2,7 @@
 use crate::pipes::{ask, tells};
 use crate::saying::{says_nothing, told};
 use pp_head::{HeadState, KeptHead, Scratch, read_response};
-use pp_peers::{Limits, Load, PEERS, Peers, Placed};
+use pp_peers::{Limits, PEERS, Peers, Placed};
 use pp_pipe::{binds_connection, stays_open};
 use pp_text::OutOfMemory;
 use std::alloc::Global;
@@ -58,7 +58,6 @@ enum Act<'a> {
     Gone(u64),
     /// Where the next ask goes, shared and alone.
     Places(Placed, Placed),
-    Load(u64, Option<Load>),
     Has(u64, bool),
     Len(usize),
 }
@@ -71,7 +70,6 @@ fn is_met(peers: &mut Peers, act: &Act<'_>) -> bool {
         Act::Gone(number) => gone(peers, *number),
         Act::Places(shared, alone) => is_placed(peers, false, *shared)
             && is_placed(peers, true, *alone),
-        Act::Load(number, wanted) => peers.load(*number) == *wanted,
         Act::Has(number, wanted) => peers.has(*number) == *wanted,
         Act::Len(len) => peers.len() == *len,
     }
@@ -152,15 +150,6 @@ const PLACED: &[Act<'static>] = &[
     Act::Ask(5, 1),
     Act::Places(Placed::Wait, Placed::Wait),
     Act::Tells(7, b"HTTP/1.1 204 No Content\r\n\r\n", b"<204 >"),
-    Act::Load(
-        7,
-        Some(Load {
-            asks: 1,
-            outstanding: 1,
-            may_pipeline: true,
-        }),
-    ),
-    Act::Load(8, None),
     Act::Places(Placed::On(7), Placed::Wait),
     Act::Gone(5),
     Act::Has(5, false),

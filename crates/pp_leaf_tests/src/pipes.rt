@@ -97,18 +97,6 @@ pub fn ask(pipe: &mut Pipe, count: usize) -> bool {
     write(pipe, OUT_ROOM)
 }
 
-/// Adds to the ask, where it is alone and there is room.
-fn append(pipe: &mut Pipe, bytes: &[u8]) -> bool {
-    if pipe.asks() != 1 {
-        return false;
-    }
-    if bytes.len() > pipe.room() {
-        return false;
-    }
-    pipe.append(bytes);
-    true
-}
-
 /// Whether the ask of this place is withdrawn. None: there is none.
 fn withdraw(pipe: &mut Pipe, place: usize) -> Option<bool> {
     if place < pipe.asks() {
@@ -129,7 +117,6 @@ enum Act<'a> {
     /// So many times, the second time by HEAD.
     Ask(usize),
     Push(&'a [u8], Result<(), Full>),
-    Append(&'a [u8]),
     Write(usize),
     Withdraw(usize, Option<bool>),
     /// These bytes tell this, in two pieces, the first of as many bytes as is tried.
@@ -142,8 +129,6 @@ enum Act<'a> {
     Out(&'a [u8]),
     Asks(usize),
     Outstanding(usize),
-    IsAnswering(bool),
-    HasAnswered(bool),
     MayPipeline(bool),
 }
 
@@ -152,7 +137,6 @@ fn is_met(pipe: &mut Pipe, cut: usize, act: &Act<'_>) -> bool {
         Act::Restart(id) => restart(pipe, *id),
         Act::Ask(count) => ask(pipe, *count),
         Act::Push(text, wanted) => push(pipe, text, false) == *wanted,
-        Act::Append(bytes) => append(pipe, bytes),
         Act::Write(n) => write(pipe, *n),
         Act::Withdraw(place, wanted) => withdraw(pipe, *place) == *wanted,
         Act::Tells(bytes, wanted) => tells_in_two(pipe, cut, bytes, wanted),
@@ -164,8 +148,6 @@ fn is_met(pipe: &mut Pipe, cut: usize, act: &Act<'_>) -> bool {
         Act::Out(wanted) => pipe.out() == *wanted,
         Act::Asks(count) => pipe.asks() == *count,
         Act::Outstanding(count) => pipe.outstanding() == *count,
-        Act::IsAnswering(wanted) => pipe.is_answering() == *wanted,
-        Act::HasAnswered(wanted) => pipe.has_answered() == *wanted,
         Act::MayPipeline(wanted) => pipe.may_pipeline() == *wanted,
     }
 }
@@ -202,17 +184,14 @@ const RESPONSES: &[Act<'static>] = &[
     Act::Restart(1),
     Act::Ask(MAX_ASKS),
     Act::Tells(EIGHT, TOLD),
-    Act::IsAnswering(true),
     Act::Asks(1),
     Act::Ended(Ending::Whole),
     Act::Asks(0),
-    Act::HasAnswered(true),
     Act::MayPipeline(true),
 ];
 
 const WITHDRAWN: &[Act<'static>] = &[
     Act::Push(b"POST", Ok(())),
-    Act::Append(b"he"),
     Act::Push(b"two", Ok(())),
     Act::Push(b"two", Ok(())),
     Act::Push(b"two", Ok(())),
@@ -222,16 +201,18 @@ const WITHDRAWN: &[Act<'static>] = &[
     Act::Push(b"two", Ok(())),
     Act::Push(b"six", Err(Full)),
     Act::Id(7),
-    Act::OutLen(27),
-    Act::Room(131_045),
-    Act::Write(4),
+    Act::OutLen(25),
+    Act::Room(131_047),
+    Act::Write(2),
     Act::Asks(8),
-    Act::Outstanding(1),
+    Act::Outstanding(0),
     Act::Withdraw(0, Some(false)),
     Act::Withdraw(1, Some(true)),
     Act::Withdraw(7, None),
     Act::Asks(7),
-    Act::Out(b"hetwotwotwotwotwotwo"),
+    Act::Out(b"STtwotwotwotwotwotwo"),
+    Act::Write(2),
+    Act::Outstanding(1),
     Act::Feed(b"HTTP", (4, Step::Idle)),
     Act::Ended(Ending::Short),
 ];

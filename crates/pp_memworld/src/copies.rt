@@ -4,9 +4,10 @@ ghost use Rattle.std.specs.List.{list_all};
 ghost use Rattle.pp_memworld.specs.Folder.{is_sound};
 
 use crate::image;
+use crate::telling::copy_both;
 use pp_text::{Octets, OutOfMemory};
 use pp_world::{DiskOp, Happening, Remark};
-use std::alloc::Global;
+use std::alloc::{AllocError, Global};
 
 /// The same log.
 pub(crate) fn log_again(alloc: Global, log: &[Happening]) -> Result<Vec<Happening>, OutOfMemory>
@@ -23,10 +24,8 @@ pub(crate) fn log_again(alloc: Global, log: &[Happening]) -> Result<Vec<Happenin
 fn push(log: &mut Vec<Happening>, happening: Happening) -> Result<(), OutOfMemory>
     ensures { OnOk result (log.new.items ≡ log.old.items ++ happening ∷ []) }
 {
-    match log.push(happening) {
-        Ok(()) => Ok(()),
-        Err(_) => Err(OutOfMemory),
-    }
+    log.push(happening).map_err(AllocError::from)?;
+    Ok(())
 }
 
 fn happening_again(alloc: Global, happening: &Happening) -> Result<Happening, OutOfMemory>
@@ -107,15 +106,18 @@ fn remark_again(alloc: Global, remark: &Remark) -> Result<Remark, OutOfMemory>
         Remark::Taken(client, request, decision) => Remark::Taken(*client, *request, *decision),
         Remark::Cut(client, cause) => Remark::Cut(*client, *cause),
         Remark::Kept(key, tag, len, extent) => {
-            Remark::Kept(again(alloc, key)?, again(alloc, tag)?, *len, *extent)
+            let (key, tag) = copy_both(alloc, key.as_slice(), tag.as_slice())?;
+            Remark::Kept(key, tag, *len, *extent)
         }
         Remark::Gone(key) => Remark::Gone(again(alloc, key)?),
         Remark::Forgotten(key) => Remark::Forgotten(again(alloc, key)?),
         Remark::Evicted(key, tag, len, chunk) => {
-            Remark::Evicted(again(alloc, key)?, again(alloc, tag)?, *len, *chunk)
+            let (key, tag) = copy_both(alloc, key.as_slice(), tag.as_slice())?;
+            Remark::Evicted(key, tag, *len, *chunk)
         }
         Remark::Loaded(key, tag, len, chunk) => {
-            Remark::Loaded(again(alloc, key)?, again(alloc, tag)?, *len, *chunk)
+            let (key, tag) = copy_both(alloc, key.as_slice(), tag.as_slice())?;
+            Remark::Loaded(key, tag, *len, *chunk)
         }
     })
 }

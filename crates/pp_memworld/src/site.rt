@@ -108,12 +108,16 @@ fn answer(
         return answer_part(page, from, to, answers);
     }
     if field(fields, "if-none-match").is_some_and(|named| named == tag) {
-        answers.extend_from_slice(b"HTTP/1.1 304 Not Modified\r\nETag: ")?;
-        answers.extend_from_slice(tag)?;
-        answers.extend_from_slice(b"\r\n\r\n")?;
-        return Ok(());
+        return answer_unchanged(tag, answers);
     }
     answer_whole(page, answers)
+}
+
+fn answer_unchanged(tag: &[u8], answers: &mut Vec<u8>) -> Result<(), OutOfMemory> {
+    answers.extend_from_slice(b"HTTP/1.1 304 Not Modified\r\nETag: ")?;
+    answers.extend_from_slice(tag)?;
+    answers.extend_from_slice(b"\r\n\r\n")?;
+    Ok(())
 }
 
 /// The span that is asked for, where the asker has no other version.

@@ -8,17 +8,15 @@ ghost use Rattle.pp_memworld.specs.Sides.{side_at};
 use crate::folder::Folder;
 use pp_text::{Octets, OutOfMemory};
 use pp_world::{Happening, Image, Name, Note, Remark, Side};
-use std::alloc::Global;
+use std::alloc::{AllocError, Global};
 use std::collections::BTreeMap;
 
 /// The log of a life that begins after this one.
 pub(crate) fn begun(mut log: Vec<Happening>, image: Image) -> Result<Vec<Happening>, OutOfMemory>
     ensures { IfOk result (λ l. l.items ≡ log.items ++ Happening.Woke image ∷ []) }
 {
-    match log.push(Happening::Woke(image)) {
-        Ok(()) => Ok(log),
-        Err(_) => Err(OutOfMemory),
-    }
+    log.push(Happening::Woke(image)).map_err(AllocError::from)?;
+    Ok(log)
 }
 
 /// Whether the log is told still, after a happening that the folder follows.
@@ -106,25 +104,32 @@ pub(crate) fn remark(alloc: Global, note: &Note<'_>) -> Result<Remark, OutOfMemo
     match *note {
         Note::Taken(client, request, decision) => Ok(Remark::Taken(client, request, decision)),
         Note::Cut(client, cause) => Ok(Remark::Cut(client, cause)),
-        Note::Kept(key, tag, len, extent) => Ok(Remark::Kept(
-            Octets::copy(alloc, key)?,
-            Octets::copy(alloc, tag)?,
-            len,
-            extent,
-        )),
+        Note::Kept(key, tag, len, extent) => {
+            let (key, tag) = copy_both(alloc, key, tag)?;
+            Ok(Remark::Kept(key, tag, len, extent))
+        }
         Note::Gone(key) => Ok(Remark::Gone(Octets::copy(alloc, key)?)),
         Note::Forgotten(key) => Ok(Remark::Forgotten(Octets::copy(alloc, key)?)),
-        Note::Evicted(key, tag, len, chunk) => Ok(Remark::Evicted(
-            Octets::copy(alloc, key)?,
-            Octets::copy(alloc, tag)?,
-            len,
-            chunk,
-        )),
-        Note::Loaded(key, tag, len, chunk) => Ok(Remark::Loaded(
-            Octets::copy(alloc, key)?,
-            Octets::copy(alloc, tag)?,
-            len,
-            chunk,
-        )),
+        Note::Evicted(key, tag, len, chunk) => {
+            let (key, tag) = copy_both(alloc, key, tag)?;
+            Ok(Remark::Evicted(key, tag, len, chunk))
+        }
+        Note::Loaded(key, tag, len, chunk) => {
+            let (key, tag) = copy_both(alloc, key, tag)?;
+            Ok(Remark::Loaded(key, tag, len, chunk))
+        }
     }
+}
+
+/// The key of a version, and its tag.
+pub(crate) fn copy_both(
+    alloc: Global,
+    key: &[u8],
+    tag: &[u8],
+) -> Result<(Octets, Octets), OutOfMemory>
+    ensures { IfOk result (λ both. (both.0 ≡ key.now) × (both.1 ≡ tag.now)) }
+{
+    let key = Octets::copy(alloc, key)?;
+    let tag = Octets::copy(alloc, tag)?;
+    Ok((key, tag))
 }

@@ -7,8 +7,8 @@ use Rattle.pp_net.specs.declared.connection.Phase.TheVariants.{Accepted, Lingeri
 abbrev pub is_open_in : Phase → Bool
 is_open_in Accepted = true
 is_open_in (Lingering since) = false
-is_open_in Dialled = true
-is_open_in Answered = true
+is_open_in (Dialled dial) = true
+is_open_in (Answered dial) = true
 is_open_in Reached = true
 is_open_in Broken = true
 
@@ -16,7 +16,7 @@ is_open_in Broken = true
 abbrev pub phase_heard : Bool → Phase → Phase
 phase_heard is_told Accepted = Accepted
 phase_heard is_told (Lingering since) = Lingering since
-phase_heard is_told Dialled = cond is_told Answered Dialled
-phase_heard is_told Answered = Answered
+phase_heard is_told (Dialled dial) = cond is_told (Answered dial) (Dialled dial)
+phase_heard is_told (Answered dial) = Answered dial
 phase_heard is_told Reached = Reached
 phase_heard is_told Broken = Broken

@@ -5,6 +5,7 @@ ghost use Rattle.pp_net.specs.Connection.{is_open_in, phase_heard};
 ghost use Rattle.std.specs.Bool.{OnTrue};
 ghost use Rattle.pp_net.specs.Readiness.{wakes_writer};
 
+use crate::dial::Dial;
 use crate::readiness::Readiness;
 use crate::visit::Visit;
 use mio::event::Event as Report;
@@ -32,16 +33,16 @@ const DRAIN_READS: u32 = 64;
 /// Answered -> Reached     somebody looked how it went                       [reach]
 /// Reached  -> Broken      a write failed                                    [write]
 /// ```
-#[derive(Clone, Copy, Debug, PartialEq, Eq)]
+#[derive(Clone, Copy)]
 pub enum Phase {
     /// A client.
     Accepted,
     /// A client that was closed in this second. What it sends is thrown away.
     Lingering(u64),
     /// An origin that is not reached yet.
-    Dialled,
+    Dialled(Dial),
     /// An origin whose dial has ended, and nobody looked yet how.
-    Answered,
+    Answered(Dial),
     /// An origin.
     Reached,
     /// An origin that takes no more. What it sent before can still be read, and its end is a fault.
@@ -74,8 +75,8 @@ impl Connection {
         let readiness = match phase {
             Phase::Accepted => Readiness::UNTRIED,
             Phase::Lingering(_)
-            | Phase::Dialled
-            | Phase::Answered
+            | Phase::Dialled(_)
+            | Phase::Answered(_)
             | Phase::Reached
             | Phase::Broken => Readiness::NONE,
         };
@@ -136,8 +137,10 @@ impl Connection {
         ensures id { self.new.id ≡ self.old.id }
     {
         self.readiness.hear(report);
-        if self.phase == Phase::Dialled && self.readiness.write {
-            self.phase = Phase::Answered;
+        if let Phase::Dialled(dial) = self.phase
+            && self.readiness.write
+        {
+            self.phase = Phase::Answered(dial);
         }
     }
 
@@ -160,7 +163,7 @@ impl Connection {
         ensures id { self.new.id ≡ self.old.id }
     {
         match self.stream.read(buf) {
-            Ok(0) if self.phase == Phase::Broken => Err(io::Error::from(
+            Ok(0) if matches!(self.phase, Phase::Broken) => Err(io::Error::from(
                 ErrorKind::ConnectionReset,
             )),
             Ok(0) => Ok(Got::End),
@@ -209,7 +212,9 @@ impl Connection {
     pub fn linger(&mut self, now: u64) -> bool
         ensures { OnTrue result (self.new.phase ≡ Phase.Lingering now) }
     {
-        if self.phase != Phase::Accepted || self.stream.shutdown(Shutdown::Write).is_err() {
+        if !matches!(self.phase, Phase::Accepted)
+            || self.stream.shutdown(Shutdown::Write).is_err()
+        {
             return false;
         }
         self.phase = Phase::Lingering(now);
@@ -222,8 +227,11 @@ impl Connection {
     {
         match self.phase {
             Phase::Lingering(since) => now.abs_diff(since) >= LINGER_SECONDS || self.drain(),
-            Phase::Accepted | Phase::Dialled | Phase::Answered | Phase::Reached | Phase::Broken =>
-                false,
+            Phase::Accepted
+            | Phase::Dialled(_)
+            | Phase::Answered(_)
+            | Phase::Reached
+            | Phase::Broken => false,
         }
     }
 

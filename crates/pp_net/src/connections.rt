@@ -5,6 +5,7 @@ ghost use Rattle.pp_world.specs.Wire.{IsNewNumber, has_number};
 use crate::connection::{Connection, Direction, Phase};
 use mio::event::Event as Report;
 use std::alloc::{AllocError, Global};
+use std::net::SocketAddr;
 
 /// How many connections there may be: clients, origins, and closed clients that linger.
 pub const PLACES: u64 = 512;
@@ -53,17 +54,14 @@ impl Connections {
         })
     }
 
-    /// A place for one more connection. A client that lingers gives way, the one that lingers longest first.
-    pub fn make_place(&mut self) -> Option<u64>
+    /// The place for one more connection: one that is free, or else that of the client that lingers longest, which gives way
+    /// once another is put there.
+    pub fn next_place(&self) -> Option<u64>
         ensures { IfSome result (λ place. place < PLACES) }
     {
         match self.places.iter().position(|place| place.is_none()) {
             Some(place) => Some(place_of(place as u64)),
-            None => {
-                let id = self.longest_lingering()?;
-                self.empty(id);
-                Some(place_of(id))
-            }
+            None => self.longest_lingering().map(place_of),
         }
     }
 
@@ -79,7 +77,7 @@ impl Connections {
         longest.map(|(_, id)| id)
     }
 
-    /// Puts a connection into the place of its number.
+    /// Puts a connection into the place of its number; who lingered there is dropped.
     pub fn put(&mut self, connection: Connection) {
         let id = connection.id();
         if let Some(place) = self.places.get_mut(place_of(id) as usize) {
@@ -113,6 +111,14 @@ impl Connections {
         }
     }
 
+    /// The address at which this one is dialled, and nobody answers.
+    pub fn silent(&self, id: u64, now: u64) -> Option<SocketAddr> {
+        match self.get(id)?.phase() {
+            Phase::Dialled(dial) if dial.is_silent(now) => Some(dial.address),
+            _ => None,
+        }
+    }
+
     /// Closes the connection of this number, in the second `now`. A client may linger.
     pub fn close(&mut self, id: u64, now: u64) {
         if let Some(connection) = self.get_mut(id)
@@ -139,7 +145,7 @@ impl Connections {
         };
         connection.hear(report);
         match connection.phase() {
-            Phase::Answered => self.has_answer = true,
+            Phase::Answered(_) => self.has_answer = true,
             Phase::Lingering(_) if connection.drain() => *place = None,
             _ => {}
         }
@@ -151,11 +157,10 @@ impl Connections {
         if !self.has_answer {
             return None;
         }
-        let found = self
-            .places
-            .iter_mut()
-            .flatten()
-            .find(|connection| connection.phase() == Phase::Answered);
+        let found = self.places.iter_mut().flatten().find(|connection| matches!(
+            connection.phase(),
+            Phase::Answered(_)
+        ));
         self.has_answer = found.is_some();
         found
     }

@@ -8,6 +8,8 @@
 //! where its path names another. What is to stand through a crash is synced: a file by the handle that wrote
 //! it, the names in the folder by the folder itself. What a life finds is synced once at its begin.
 //!
+//! A name is dialled at one of its addresses, and at the next where that fails.
+//!
 //! The seconds that are told go on where the system's clock is set back, and follow it where it is set forth.
 //!
 //! To the layer above: `NetWorld` is a `Wire` and a `Disk` that tells no log. Its count of faults rises at
@@ -24,12 +26,13 @@ mod access; // the operator's log
 mod connection; // one connection: its phase, and its bytes
 mod connections; // all of them, by number
 mod console; // what is printed, and where
+mod dial; // a dial: to which address, and since when
 mod disk; // the calls on files
 mod door; // the listener, and who may come
 mod files; // the front of a configuration
 mod folder; // the folder of files, its lock, and the calls on its files
 mod held; // a file that is held open
-mod hosts; // addresses of names, for a few seconds
+mod hosts; // addresses of names, for a few seconds, and which is dialled next
 mod listing; // the names in the folder
 mod net_world; // the tables, the counts, and how the system is asked
 mod place; // where the folder stands, and how it is made

@@ -7,6 +7,7 @@ ghost use Rattle.pp_world.specs.Wire.{IsNewNumber};
 use crate::access::Access;
 use crate::connection::{Connection, Phase};
 use crate::connections::{Connections, next_number};
+use crate::dial::Dial;
 use crate::door::OpenDoor;
 use crate::folder::Folder;
 use crate::hosts::Hosts;
@@ -19,7 +20,7 @@ use pp_world::{Door, Logged, WireFault};
 use std::alloc::{AllocError, Global};
 use std::io;
 use std::io::ErrorKind;
-use std::net::{Net, SocketAddr};
+use std::net::Net;
 use std::rt::Runtime;
 use std::time::Duration;
 use thiserror::Error;
@@ -38,7 +39,8 @@ pub enum NetFault {
     OutOfMemory,
 }
 
-/// Sockets of IPv4, the clock, the console and files, as the runtime `R` gives them.
+/// Sockets, the clock, the console and files, as the runtime `R` gives them. Clients come over IPv4; an origin is dialled over
+/// IPv4, and over IPv6 where it has no such address or none that answers.
 ///
 /// The log is not told. The count of faults rises at each fault of a socket, a file, the clock or the
 /// console, but not for what befalls a connection that is closed.
@@ -51,7 +53,7 @@ pub struct NetWorld<R: Drop> {
     pub(crate) access: Access,
     pub(crate) connections: Connections,
     pub(crate) rotation: Rotation,
-    hosts: Hosts,
+    pub(crate) hosts: Hosts,
     pub(crate) folder: Folder,
     pub(crate) seconds: Seconds,
     // The second that was told last.
@@ -152,7 +154,7 @@ impl<R: Runtime + AllocGlobal + Net> NetWorld<R> {
         Ok(())
     }
 
-    /// Begins a connection to a host.
+    /// Begins a connection to a host, at the address whose turn it is.
     pub(crate) fn connect(&mut self, host: &[u8], port: u16) -> io::Result<u64>
         ensures number { IfOk result (IsNewNumber self.old.top) }
         ensures faults { self.new.faults ≡ self.old.faults }
@@ -165,9 +167,17 @@ impl<R: Runtime + AllocGlobal + Net> NetWorld<R> {
             return Err(io::Error::from(ErrorKind::ResourceBusy));
         };
         let now = self.second.unwrap_or(0);
-        let address = self.hosts.address(&self.rt, host, now)?;
-        let stream = TcpStream::connect(&self.rt, SocketAddr::new(address, port))?;
-        self.admit(id, stream, Phase::Dialled, None)
+        let address = self.hosts.address(&self.rt, host, port, now)?;
+        match TcpStream::connect(&self.rt, address) {
+            Ok(stream) => {
+                let dial = Dial::begun(address, now);
+                self.admit(id, stream, Phase::Dialled(dial), None)
+            }
+            Err(e) => {
+                self.hosts.pass_over(address);
+                Err(e)
+            }
+        }
     }
 
     /// Takes the client that waits longest, if there is a place for it.
@@ -217,13 +227,11 @@ impl<R: Runtime + AllocGlobal + Net> NetWorld<R> {
         Ok(id)
     }
 
-    // A number above all that were given, which names a free place.
-    fn new_number(&mut self) -> Option<u64>
-        ensures number { IfSome result (IsNewNumber self.old.top) }
-        ensures faults { self.new.faults ≡ self.old.faults }
-        ensures top { self.new.top ≡ self.old.top }
+    // A number above all that were given, which names a place for one more.
+    fn new_number(&self) -> Option<u64>
+        ensures { IfSome result (IsNewNumber self.now.top) }
     {
-        let place = self.connections.make_place()?;
+        let place = self.connections.next_place()?;
         next_number(self.top, place)
     }
 }

@@ -4,6 +4,7 @@ ghost use Rattle.pp_world.specs.declared.event.Event.TheVariants.{Tick};
 ghost use Rattle.pp_world.specs.declared.event.Wants.{Wants};
 ghost use Rattle.pp_net.specs.Found.{Finds, IsFoundFor};
 
+use crate::connection::Phase;
 use crate::folder::Folder;
 use crate::net_world::NetWorld;
 use crate::rotation::Turn;
@@ -131,17 +132,21 @@ impl<R: Runtime + AllocGlobal + Net + Files<File = File>> NetWorld<R> {
         None
     }
 
-    // How a dial went.
+    // How a dial went. An address that failed is passed over.
     fn find_answered(&mut self) -> Option<Event>
         ensures found { (wants : Wants) → IfSome result (IsFoundFor wants self.old.top self.new.top) }
         ensures faults { self.old.faults ≤ self.new.faults }
         ensures top { self.new.top ≡ self.old.top }
     {
         let connection = self.connections.answered()?;
+        let Phase::Answered(dial) = connection.phase() else {
+            return None;
+        };
         let id = connection.id();
         match connection.reach() {
             Ok(()) => Some(Event::Reached(id)),
             Err(_) => {
+                self.hosts.pass_over(dial.address);
                 self.fault();
                 Some(Event::Broken(id))
             }
@@ -264,8 +269,13 @@ impl<R: Runtime + AllocGlobal + Net + Files<File = File>> Wire for NetWorld<R> {
         }
     }
 
+    /// Where a dial is given up that nobody answered, its address is passed over.
     fn close(&mut self, id: u64) {
-        self.connections.close(id, self.second.unwrap_or(0));
+        let now = self.second.unwrap_or(0);
+        if let Some(address) = self.connections.silent(id, now) {
+            self.hosts.pass_over(address);
+        }
+        self.connections.close(id, now);
     }
 
     /// Puts nothing on record: no log is told.

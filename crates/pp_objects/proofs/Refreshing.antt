@@ -12,7 +12,7 @@ use Rattle.pp_text.specs.Bytes.{lower, is_same}
 use Rattle.pp_text.specs.Fields.{Field, is_named}
 use Rattle.pp_text.specs.Lines.{line_of, lines_of, crlf}
 use Rattle.pp_fresh.specs.declared.aging.Times.{Times}
-use Rattle.pp_valid.specs.Kept.{date_value, is_renewed, is_lasting_of, lasting_fields, renewed_fields}
+use Rattle.pp_valid.specs.Kept.{date_value, is_checksum, is_renewed, is_lasting_of, lasting_fields, renewed_fields}
 use Rattle.pp_objects.specs.Dates.{date_text_at}
 use Rattle.pp_objects.specs.Kept.{date_field, or_else, latest, renewal_of, kept_of, is_passing, lasting_of, refreshed_of, has_room}
 use Rattle.pp_objects.specs.Texts.{size_of, FieldText, AddsFields, HasRoomFor, HoldsRefresh}
@@ -35,8 +35,8 @@ none_pass : (p q : Field → Bool) (fs : List Field) → ((f : Field) → p f �
 none_pass p q [] h = refl
 none_pass p q (f ∷ fs) h = gone_by q f (filter p fs) (p f) (h f) (none_pass p q fs h)
 
-lasts : (h a b c d r : Bool) → (not h && not ((a || b || c || d) || r)) ≡ true → not (d || r) ≡ true
-lasts h a b c d r e = grind (arith, common_steps, e)
+lasts : (h a b c d s r : Bool) → (not h && not ((a || b || c || d || s) || r)) ≡ true → not (d || r) ≡ true
+lasts h a b c d s r e = grind (arith, common_steps, e)
 
 first_passes : (d a b : Bool) → a ≡ true → not (d || (a || b)) ≡ false
 first_passes d a b e = grind (arith, common_steps, e)
@@ -81,7 +81,7 @@ pub lasting_kept : (fields : List Field) (times : Times) → lasting_of (kept_of
 lasting_kept fields times =
     lasting_stays (lasting_fields fields) [] fields times
     (all_pass (is_lasting_of fields) (λ f. not (is_passing f)) fields
-    (λ f. lasts _ (is_named (codes "content-length") f) (is_named (codes "content-range") f) (is_named (codes "age") f) (is_named (codes "date") f) (is_renewed f)))
+    (λ f. lasts _ (is_named (codes "content-length") f) (is_named (codes "content-range") f) (is_named (codes "age") f) (is_named (codes "date") f) (is_checksum f) (is_renewed f)))
 
 pub lasting_refreshed : (kept fields : List Field) (times : Times) → lasting_of (refreshed_of kept fields times) ≡ lasting_of kept
 lasting_refreshed kept fields times =

@@ -18,6 +18,7 @@ sunday = at 784111777
 a_response_keeps_what_is_not_of_its_connection_and_has_a_date : Rows (λ (fields : List Field). kept_of fields sunday) (
     ((codes "Cache-Control", codes "max-age=60") ∷ (codes "Content-Type", codes "text/plain") ∷ (codes "Connection", codes "X-Hop, Upgrade") ∷ (codes "X-Hop", codes "1") ∷ (codes "Age", codes "7") ∷ (codes "Content-Length", codes "5") ∷ (codes "Date", codes "Sun, 06 Nov 1994 08:49:30 GMT") ∷ (codes "Expires", codes "0") ∷ (codes "ETag", codes "\"x\"") ∷ (codes "Cache-Control", codes "no-transform") ∷ [], (codes "Content-Type", codes "text/plain") ∷ (codes "ETag", codes "\"x\"") ∷ (codes "date", codes "Sun, 06 Nov 1994 08:49:30 GMT") ∷ (codes "Expires", codes "0") ∷ (codes "Cache-Control", codes "max-age=60") ∷ (codes "Cache-Control", codes "no-transform") ∷ [])
     ∷ ((codes "Date", codes "yesterday") ∷ [], (codes "date", codes "Sun, 06 Nov 1994 08:49:37 GMT") ∷ [])
+    ∷ ((codes "Content-MD5", codes "Q2hlY2sgSW50ZWdyaXR5IQ==") ∷ (codes "content-digest", codes "sha-256=:cQ==:") ∷ (codes "Repr-Digest", codes "sha-256=:cQ==:") ∷ (codes "Digest", codes "md5=cQ==") ∷ (codes "Content-Language", codes "en") ∷ [], (codes "Repr-Digest", codes "sha-256=:cQ==:") ∷ (codes "Digest", codes "md5=cQ==") ∷ (codes "Content-Language", codes "en") ∷ (codes "date", codes "Sun, 06 Nov 1994 08:49:37 GMT") ∷ [])
     ∷ [])
 unfolding httpdate_on_literals digits
 a_response_keeps_what_is_not_of_its_connection_and_has_a_date = refl

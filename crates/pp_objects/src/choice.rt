@@ -1,12 +1,12 @@
 // Which fields of a response are kept, and which a later response of the version renews.
 ghost use Rattle.std.specs.Prelude.{◌≡◌, ◌<◌, [], length};
 ghost use Rattle.pp_text.specs.Fields.{field_at};
-ghost use Rattle.pp_valid.specs.Kept.{is_lasting_of, is_renewed, is_renewed_of, is_written_anew};
+ghost use Rattle.pp_valid.specs.Kept.{is_lasting_of, is_of_one_message, is_renewed, is_renewed_of};
 ghost use Rattle.pp_objects.specs.Kept.{is_passing};
 ghost use Rattle.pp_objects.specs.Texts.{is_chosen};
 
 use pp_text::{Fields, is_forwarded, same};
-use pp_valid::{is_renewed, is_written_anew};
+use pp_valid::{is_of_one_message, is_renewed};
 
 /// Which fields of a list.
 #[derive(Clone, Copy)]
@@ -46,7 +46,7 @@ fn is_lasting_of(fields: &Fields<'_, '_>, index: usize) -> bool
     ensures { result ≡ is_lasting_of fields.now (field_at fields.now index) }
 {
     let name = fields.name(index);
-    is_forwarded(fields, index) && !(is_written_anew(name) || is_renewed(name))
+    is_forwarded(fields, index) && !(is_of_one_message(name) || is_renewed(name))
 }
 
 fn is_renewed_of(fields: &Fields<'_, '_>, index: usize) -> bool

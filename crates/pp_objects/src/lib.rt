@@ -10,7 +10,7 @@
 //! each used chunk is the chunk of exactly one place of one instance. `settle` takes all memory before
 //! it changes anything; after a refusal all is as before.
 //!
-//! Only `new` and `settle` take memory. Which response makes a row is for the core, which chunk goes
+//! Only `new` and `settle` take memory. Which response makes a row is for `pp_answers`, which chunk goes
 //! for `pp_evict`.
 #![tactic(auto)]
 

@@ -8,7 +8,7 @@
 //! line where its response is whole or is none, or its connection ended, that of `specs/Responses.antt`; who is idle is given up as
 //! `Origins` of `pp_desk` says.
 //!
-//! What a head and its body make of rows and clients is for `pp_steps`, how bytes are cut for `pp_pipe`.
+//! What a head makes of rows and clients is for `pp_answers`, what its body does for `pp_steps`, how bytes are cut for `pp_pipe`.
 #![tactic(auto)]
 
 mod asking; // what an origin is asked

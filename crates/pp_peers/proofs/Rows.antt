@@ -12,7 +12,7 @@ use Rattle.pp_peers.specs.declared.placing.Placed.TheVariants.{On, Dial, CloseTh
 
 -- an ask, with so many bytes of its text to be written
 abbrev ask : ℕ → Ask
-ask left = record { head_request = false; is_begun = false; text_left = left; body_left = 0 }
+ask left = record { head_request = false; is_begun = false; text_left = left }
 
 -- what a connection carries: so many asks that are written, so many that are not, and whether it brought a response before
 abbrev Carried : Type 0

@@ -212,18 +212,6 @@ impl Peers {
         self.peers.get_mut(place)
     }
 
-    /// What the connection with this number carries. `None` exactly where it is not there.
-    pub fn load(&self, number: u64) -> Option<Load>
-        ensures { result ≡ option_map load_in (find (is_number number) self.now) }
-    {
-        for peer in &self.peers {
-            if peer.number == number {
-                return Some(load_of(peer));
-            }
-        }
-        None
-    }
-
     /// The pipe of the connection with this number, lent. `None` exactly where it is not there.
     #[tactic(auto, using(crate::proofs::Finding::none_found))]
     pub fn pipe(&mut self, number: u64) -> Option<&mut Pipe>

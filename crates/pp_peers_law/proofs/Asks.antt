@@ -11,7 +11,7 @@ use Rattle.pp_peers.specs.declared.peers.Peer.{Peer}
 use Rattle.pp_peers_law.proofs.Finds.{alone_kept, find_elsewhere, find_there, found_number, no_or, other_way, same_number}
 use Rattle.pp_peers_law.specs.Asked.{AreDistinct, AsksAreTheLaws, IsTextNext, LinesAreTheLaws}
 use Rattle.pp_peers_law.specs.Peers.{has_alone, rests_of, ShowsAsk, ShowsLine, ShowsPipe}
-use Rattle.pp_pipe.specs.Asks.{all_taken, ask_taken, size_of}
+use Rattle.pp_pipe.specs.Asks.{all_taken, ask_taken}
 use Rattle.pp_pipe.specs.declared.asks.Ask.{Ask}
 
 same_back : (d e n : ℕ) → (d == n) ≡ true → d ≡ e → (n == e) ≡ true
@@ -97,28 +97,24 @@ no_bytes : (b : Bool) (k : ℕ) → k ≡ 0 → b || nat_lt 0 k ≡ b
 no_bytes true k is = refl
 no_bytes false k is = grind (arith, nat_tests)
 
-none_of : (m text body : ℕ) → body ≡ 0 → (m ≡ 0) ⊎ (text ≡ 0) → min m (text + body) ≡ 0
-none_of m text body none (inl is) = grind (arith)
-none_of m text body none (inr is) = grind (arith)
+none_of : (m text : ℕ) → (m ≡ 0) ⊎ (text ≡ 0) → min m text ≡ 0
+none_of m text (inl is) = grind (arith)
+none_of m text (inr is) = grind (arith)
 
 no_less : (asked m text len : ℕ) → asked + text ≡ len → (m ≡ 0) ⊎ (text ≡ 0) → asked + (text - m) ≡ len
 no_less asked m text len is (inl none) = grind (arith)
 no_less asked m text len is (inr none) = grind (arith)
 
-still_none : (body n : ℕ) → body ≡ 0 → body - n ≡ 0
-still_none body n is = grind (arith)
-
 -- of an ask of which nothing was left, and of one where nothing was asked
 kept_ask : (m : ℕ) (ask : Ask) (d : Exchange) → ShowsAsk ask d → (m ≡ 0) ⊎ (ask.text_left ≡ 0) → ShowsAsk (ask_taken m ask) d
 kept_ask m ask d shows none = record {
   to_head = shows.to_head;
-  is_begun = no_bytes ask.is_begun (min m (ask.text_left + ask.body_left)) (none_of m ask.text_left ask.body_left shows.body none) ∙ shows.is_begun;
+  is_begun = no_bytes ask.is_begun (min m ask.text_left) (none_of m ask.text_left none) ∙ shows.is_begun;
   text = no_less d.asked m ask.text_left (length d.text) shows.text none;
-  body = still_none ask.body_left (m - ask.text_left) shows.body;
 }
 
-all_of : (m asked text body len : ℕ) → body ≡ 0 → asked + text ≡ len → m ≤ len - asked → min m (text + body) ≡ m
-all_of m asked text body len none is few = grind (arith)
+all_of : (m asked text len : ℕ) → asked + text ≡ len → m ≤ len - asked → min m text ≡ m
+all_of m asked text len is few = grind (arith)
 
 begun_by : (asked m : ℕ) → nat_lt 0 asked || nat_lt 0 m ≡ nat_lt 0 (asked + m)
 begun_by asked m = by (nat_lt 0 asked) (nat_lt 0 m) (nat_lt 0 (asked + m)) refl refl refl
@@ -138,10 +134,9 @@ asked_ask : (m now : ℕ) (ask : Ask) (d : Exchange) → ShowsAsk ask d → m �
 asked_ask m now ask d shows few = record {
   to_head = shows.to_head;
   is_begun =
-      ap₂ (λ (a : Bool) (n : ℕ). a || nat_lt 0 n) shows.is_begun (all_of m d.asked ask.text_left ask.body_left (length d.text) shows.body shows.text few)
+      ap₂ (λ (a : Bool) (n : ℕ). a || nat_lt 0 n) shows.is_begun (all_of m d.asked ask.text_left (length d.text) shows.text few)
       ∙ begun_by d.asked m;
   text = more_asked m d.asked ask.text_left (length d.text) shows.text few;
-  body = still_none ask.body_left (m - ask.text_left) shows.body;
 }
 
 -- ---- the line
@@ -149,11 +144,11 @@ asked_ask m now ask d shows few = record {
 nothing_less : (n : ℕ) → 0 - n ≡ 0
 nothing_less n = grind (arith)
 
-none_more : (m asked text body len : ℕ) → body ≡ 0 → asked + text ≡ len → m ≤ len - asked → m - (text + body) ≡ 0
-none_more m asked text body len none is few = grind (arith)
+none_more : (m asked text len : ℕ) → asked + text ≡ len → m ≤ len - asked → m - text ≡ 0
+none_more m asked text len is few = grind (arith)
 
-all_more : (m asked text body len : ℕ) → body ≡ 0 → asked + text ≡ len → (asked == len) ≡ true → m - (text + body) ≡ m
-all_more m asked text body len none is whole = grind (arith, nat_tests)
+all_more : (m asked text len : ℕ) → asked + text ≡ len → (asked == len) ≡ true → m - text ≡ m
+all_more m asked text len is whole = grind (arith, nat_tests)
 
 pub no_text : (asked text len : ℕ) → asked + text ≡ len → (asked == len) ≡ true → text ≡ 0
 no_text asked text len is whole = grind (arith, nat_tests)
@@ -166,7 +161,7 @@ untouched s e m (n ∷ line) [] shows none = absurd shows
 untouched s e m (n ∷ line) (ask ∷ asks) shows none =
     let these : ((n == e.number) ≡ false) × (has_number e.number line ≡ false) = no_or (n == e.number) (has_number e.number line) none in (
       (shows.0.0, elsewhere s e m n (other_way n e.number these.0) ∙ shows.0.1, kept_ask 0 ask shows.0.0 shows.0.2 (inl refl)),
-      subst (λ (i : ℕ). ShowsLine (after s e m) line (all_taken i asks)) (sym (nothing_less (size_of ask))) (untouched s e m line asks shows.1 these.1),
+      subst (λ (i : ℕ). ShowsLine (after s e m) line (all_taken i asks)) (sym (nothing_less ask.text_left)) (untouched s e m line asks shows.1 these.1),
     )
 
 texts_kept : (s : State) (e : Exchange) (m : ℕ) (line : List ℕ) → has_number e.number line ≡ false → rests_of (after s e m) line ≡ rests_of s line
@@ -207,7 +202,7 @@ line_after s e m (n ∷ line) (ask ∷ asks) shows once next few =
     by shows.0.0 (is_being_asked shows.0.0) shows.0.1 refl shows.0.2 (line_after s e m line asks shows.1 once.1) (sym (ap (λ (o : Option Exchange). elim (option_and_then left_in o) as (λ x. Option Exchange) [ Some y ↦ Some y | None ↦ asked_first s line ]) shows.0.1) ∙ next)
   where
     Goal : Type 0
-    Goal = ((d : Exchange) × (exchange (after s e m) n ≡ Some d) × ShowsAsk (ask_taken m ask) d) × ShowsLine (after s e m) line (all_taken (m - size_of ask) asks)
+    Goal = ((d : Exchange) × (exchange (after s e m) n ≡ Some d) × ShowsAsk (ask_taken m ask) d) × ShowsLine (after s e m) line (all_taken (m - ask.text_left) asks)
 
     by : (d : Exchange) (t : Bool) → exchange s n ≡ Some d → is_being_asked d ≡ t → ShowsAsk ask d → (asked_first s line ≡ Some e → m ≤ length e.text - e.asked → ShowsLine (after s e m) line (all_taken m asks))
         → (elim (elim t as (λ x. Option Exchange) [ true ↦ Some d | false ↦ None ]) as (λ x. Option Exchange) [ Some y ↦ Some y | None ↦ asked_first s line ]) ≡ Some e → Goal
@@ -217,13 +212,13 @@ line_after s e m (n ∷ line) (ask ∷ asks) shows once next few =
         let fewer : m ≤ length d.text - d.asked = subst (λ (x : Exchange). m ≤ length x.text - x.asked) (sym same) few in
         let gone : has_number e.number line ≡ false = subst (λ (i : ℕ). has_number i line ≡ false) (sym number) once.0 in (
           (asked_text m s.clock d, there s e m n d found number, asked_ask m s.clock ask d shown fewer),
-          subst (λ (i : ℕ). ShowsLine (after s e m) line (all_taken i asks)) (sym (none_more m d.asked ask.text_left ask.body_left (length d.text) shown.body shown.text fewer)) (untouched s e m line asks shows.1 gone),
+          subst (λ (i : ℕ). ShowsLine (after s e m) line (all_taken i asks)) (sym (none_more m d.asked ask.text_left (length d.text) shown.text fewer)) (untouched s e m line asks shows.1 gone),
         )
     by d false found idle shown again next =
         let whole : is_outstanding d ≡ true = is_idle (is_outstanding d) (nat_lt 0 d.body_left) idle in
         let isnt : (e.number == n) ≡ false = apart s n e.number line once.0 (asked_in_line s line asks e shows.1 next) in (
           (d, elsewhere s e m n isnt ∙ found, kept_ask m ask d shown (inr (no_text d.asked ask.text_left (length d.text) shown.text whole))),
-          subst (λ (i : ℕ). ShowsLine (after s e m) line (all_taken i asks)) (sym (all_more m d.asked ask.text_left ask.body_left (length d.text) shown.body shown.text whole)) (again next few),
+          subst (λ (i : ℕ). ShowsLine (after s e m) line (all_taken i asks)) (sym (all_more m d.asked ask.text_left (length d.text) shown.text whole)) (again next few),
         )
 
 -- what is left of it

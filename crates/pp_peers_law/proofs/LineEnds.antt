@@ -34,7 +34,7 @@ none_and_all n = grind (arith)
 
 come : (s : State) (e : Exchange) (k : ℕ) (line : List ℕ) (asks : List Ask) → exchange s e.number ≡ Some e → ShowsLine s line asks → has_number e.number line ≡ false
     → ShowsLine (put_on e.number k s) (line ++ e.number ∷ []) (asks ++ fresh e.text (asks_head e) ∷ [])
-come s e k [] [] found shows none = ((placed k e, there s e k found, record { to_head = refl; is_begun = refl; text = none_and_all (length e.text); body = refl }), tt)
+come s e k [] [] found shows none = ((placed k e, there s e k found, record { to_head = refl; is_begun = refl; text = none_and_all (length e.text) }), tt)
 come s e k [] (ask ∷ asks) found shows none = absurd shows
 come s e k (n ∷ line) [] found shows none = absurd shows
 come s e k (n ∷ line) (ask ∷ asks) found shows none =
@@ -86,8 +86,8 @@ others_left s e (n ∷ line) none =
     let these : ((n == e.number) ≡ false) × (has_number e.number line ≡ false) = no_or (n == e.number) (has_number e.number line) none in
     ap₂ (λ (o : Option Exchange) (t : Bytes). rest_in o ++ t) (gone s e n (other_way n e.number these.0)) (others_left s e line these.1)
 
-none_of : (stray text body : ℕ) → stray ≡ 0 → text ≡ 0 → body ≡ 0 → stray + (0 + (text + body)) ≡ 0
-none_of stray text body one two three = grind (arith)
+none_of : (stray text : ℕ) → stray ≡ 0 → text ≡ 0 → stray + (0 + text) ≡ 0
+none_of stray text one two = grind (arith)
 
 same_exchange : (d e : Exchange) (o : Option Exchange) → o ≡ Some d → o ≡ Some e → d ≡ e
 same_exchange d e o is same = let both : Some d ≡ Some e = sym is ∙ same in cc both
@@ -100,7 +100,7 @@ behind s p e others fate (ask ∷ asks) are shows stray out found whole none =
     let shown : ShowsAsk ask e = subst (λ (d : Exchange). ShowsAsk ask d) same shows.0.2 in
     record {
       line = subst (λ (xs : List Ask). ShowsLine (end_exchange e.number s) others (drop 1 xs)) (sym are) (others_show s e others asks shows.1 none);
-      stray = ap (λ (xs : List Ask). p.pipe.stray + total (take 1 xs)) are ∙ none_of p.pipe.stray ask.text_left ask.body_left stray (no_text e.asked ask.text_left (length e.text) shown.text whole) shown.body;
+      stray = ap (λ (xs : List Ask). p.pipe.stray + total (take 1 xs)) are ∙ none_of p.pipe.stray ask.text_left stray (no_text e.asked ask.text_left (length e.text) shown.text whole);
       out = out ∙ ap (λ (o : Option Exchange). rest_in o ++ rests_of s others) found ∙ ap (λ (t : Bytes). t ++ rests_of s others) (nothing_more e.asked e.text whole) ∙ sym (others_left s e others none);
     }
 

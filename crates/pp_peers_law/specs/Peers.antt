@@ -24,7 +24,6 @@ pub record ShowsAsk (ask : Ask) (e : Exchange) : Type 0 where
   pub to_head : ask.head_request ≡ asks_head e
   pub is_begun : ask.is_begun ≡ nat_lt 0 e.asked
   pub text : e.asked + ask.text_left ≡ length e.text
-  pub body : ask.body_left ≡ 0
 
 -- one of them for each exchange of the line, in the order in which they are answered
 abbrev pub ShowsLine : State → List ℕ → List Ask → Type 0

@@ -13,7 +13,7 @@ use Rattle.pp_framing.specs.declared.body.Ending.TheVariants.{Whole, Short}
 use Rattle.pp_pipe.specs.Asks.{is_outstanding}
 use Rattle.pp_pipe.specs.Authentication.{binds_connection}
 use Rattle.pp_pipe.specs.Front.{Final, Unfinished, NoResponse, fate_of, front_of, stays_open}
-use Rattle.pp_pipe.specs.Line.{Line, answered, appended, is_begun_at, pushed, room_of, started, taken, withdrawn}
+use Rattle.pp_pipe.specs.Line.{Line, answered, is_begun_at, pushed, room_of, started, taken, withdrawn}
 use Rattle.pp_pipe.specs.Reading.{Reading, Before, Within, Broken, ending_at}
 use Rattle.pp_pipe.specs.Tale.{Event, Began, Byte, Ended, Failed, tale}
 use Rattle.pp_pipe.specs.Texts.{stray_of, texts_of}
@@ -32,7 +32,7 @@ spelled Failed = codes "!"
 
 -- an ask that was written whole, by HEAD or not
 abbrev written : Bool → Ask
-written head_request = record { head_request = head_request; is_begun = true; text_left = 0; body_left = 0 }
+written head_request = record { head_request = head_request; is_begun = true; text_left = 0 }
 
 -- what is told behind asks, by HEAD or not, however the bytes are cut
 abbrev told : List Bool × List ℕ → List ℕ
@@ -214,20 +214,18 @@ which_of_them_are_begun : Rows (λ (t : ℕ × Line). is_begun_at t.0 t.1.asks) 
     ∷ [])
 which_of_them_are_begun = refl
 
--- the response may be whole before the body was written
 abbrev posted : Line
-posted = taken 5 (appended (codes "ll") (appended (codes "he") (pushed (codes "POST") false (started 1))))
+posted = taken 1 (pushed (codes "POST") false (started 1))
 
-the_body_of_an_ask_follows_its_text : Rows outgoing (
-    (appended (codes "ll") (appended (codes "he") (pushed (codes "POST") false (started 1))), (codes "POSThell", 1, 0))
-    ∷ (posted, (codes "ell", 1, 1))
-    ∷ (answered Pipelines posted, (codes "ell", 0, 0))
-    ∷ (withdrawn 0 (pushed (codes "GET") false (answered Pipelines posted)), (codes "ell", 0, 0))
+what_of_an_answered_ask_is_left_is_written : Rows outgoing (
+    (posted, (codes "OST", 1, 0))
+    ∷ (answered Pipelines posted, (codes "OST", 0, 0))
+    ∷ (withdrawn 0 (pushed (codes "GET") false (answered Pipelines posted)), (codes "OST", 0, 0))
     ∷ [])
-the_body_of_an_ask_follows_its_text = refl
+what_of_an_answered_ask_is_left_is_written = refl
 
 what_of_an_answered_ask_is_left_goes_first : Rows {B = List ℕ × List (List ℕ)} (λ (line : Line). (stray_of line, texts_of line)) (
-    (pushed (codes "GET") false (answered Pipelines posted), (codes "ell", codes "GET" ∷ []))
+    (pushed (codes "GET") false (answered Pipelines posted), (codes "OST", codes "GET" ∷ []))
     ∷ (three, ([], codes "one" ∷ codes "two" ∷ codes "six" ∷ []))
     ∷ [])
 what_of_an_answered_ask_is_left_goes_first = refl

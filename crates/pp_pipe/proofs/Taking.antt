@@ -3,21 +3,21 @@ use Rattle.std.proofs.Common.{◌≡◌, ℕ, suc, ◌+◌, ◌-◌, ◌≤◌, 
 use Rattle.std.proofs.lemmas.List.{drop-append-le, drop-drop, drop-take, drop_all, length-drop, length-take-le, take_all}
 use Rattle.std.specs.List.{refill}
 use Rattle.std.proofs.lemmas.List.Sums.{sum_by-cons}
-use Rattle.pp_pipe.specs.Asks.{all_taken, ask_taken, out_room, size_of, total}
+use Rattle.pp_pipe.specs.Asks.{all_taken, ask_taken, out_room, total}
 use Rattle.pp_pipe.specs.Line.{without_span}
 use Rattle.pp_pipe.specs.declared.asks.Ask.{Ask}
 
-size_taken : (n : ℕ) (ask : Ask) → size_of (ask_taken n ask) ≡ size_of ask - n
-size_taken n ask = omega arith
+pub total_cons : (ask : Ask) (asks : List Ask) → total (ask ∷ asks) ≡ ask.text_left + total asks
+total_cons ask asks = sum_by-cons (λ (a : Ask). a.text_left) ask asks
 
 pub total_taken : (n : ℕ) (asks : List Ask) → total (all_taken n asks) ≡ total asks - n
 total_taken n [] = omega arith
 total_taken n (ask ∷ asks) =
-    omega (arith, size_taken n ask, total_taken (n - size_of ask) asks, sum_by-cons size_of ask asks, sum_by-cons size_of (ask_taken n ask) (all_taken (n - size_of ask) asks))
+    omega (arith, total_taken (n - ask.text_left) asks, total_cons ask asks, total_cons (ask_taken n ask) (all_taken (n - ask.text_left) asks))
 
 pub length_taken : (n : ℕ) (asks : List Ask) → length (all_taken n asks) ≡ length asks
 length_taken n [] = refl
-length_taken n (ask ∷ asks) = ap suc (length_taken (n - size_of ask) asks)
+length_taken n (ask ∷ asks) = ap suc (length_taken (n - ask.text_left) asks)
 
 pub cut_behind : (front from to : ℕ) (items : List ℕ) → from ≤ to → front + to ≤ length items → drop front (without_span (front + from) (front + to) items) ≡ without_span from to (drop front items)
 cut_behind front from to items order within =

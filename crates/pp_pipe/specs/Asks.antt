@@ -1,5 +1,5 @@
 -- The asks of a connection that are not answered whole, in their order (RFC 2616, section 8.1.2.2).
-use Rattle.std.specs.Prelude.{ℕ, ◌+◌, ◌-◌, Bool, false, ◌==◌, ◌||◌, nat_lt, min, if◌then◌else◌, List, [], ◌∷◌, length, sum_by, Option, Some, None}
+use Rattle.std.specs.Prelude.{ℕ, ◌-◌, Bool, false, ◌==◌, ◌||◌, nat_lt, min, if◌then◌else◌, List, [], ◌∷◌, length, sum_by, Option, Some, None}
 use Rattle.pp_pipe.specs.declared.asks.Ask.{Ask}
 
 -- ours: how many there may be, and how many bytes may wait to be written
@@ -9,19 +9,12 @@ max_asks = 8
 abbrev pub out_room : ℕ
 out_room = 131072
 
--- bytes of it that are still to be written
-abbrev pub size_of : Ask → ℕ
-size_of ask = ask.text_left + ask.body_left
-
+-- bytes of them that are still to be written
 abbrev pub total : List Ask → ℕ
-total asks = sum_by size_of asks
+total asks = sum_by (λ (ask : Ask). ask.text_left) asks
 
 abbrev pub fresh : List ℕ → Bool → Ask
-fresh text head_request = record { head_request = head_request; is_begun = false; text_left = length text; body_left = 0 }
-
--- so many bytes of its body wait too
-abbrev pub with_body : ℕ → Ask → Ask
-with_body n ask = record ask { body_left = ask.body_left + n }
+fresh text head_request = record { head_request = head_request; is_begun = false; text_left = length text }
 
 -- its text was taken: it may be answered
 abbrev pub is_outstanding : Ask → Bool
@@ -37,12 +30,11 @@ awaited (ask ∷ asks) = if is_outstanding ask then Some ask.head_request else N
 abbrev pub ask_taken : ℕ → Ask → Ask
 ask_taken n ask = record {
   head_request = ask.head_request;
-  is_begun = ask.is_begun || nat_lt 0 (min n (size_of ask));
+  is_begun = ask.is_begun || nat_lt 0 (min n ask.text_left);
   text_left = ask.text_left - n;
-  body_left = ask.body_left - (n - ask.text_left);
 }
 
 -- so many bytes were taken of them all, those of the first before those of the next
 abbrev pub all_taken : ℕ → List Ask → List Ask
 all_taken n [] = []
-all_taken n (ask ∷ asks) = ask_taken n ask ∷ all_taken (n - size_of ask) asks
+all_taken n (ask ∷ asks) = ask_taken n ask ∷ all_taken (n - ask.text_left) asks

@@ -1,8 +1,8 @@
 -- A connection to an origin: what is asked there, and what comes (RFC 2616, section 8.1.2.2).
-use Rattle.std.specs.Prelude.{ℕ, ◌+◌, ◌-◌, Bool, true, false, ◌||◌, List, [], ◌∷◌, ◌++◌, length, map, take, drop, remove, slice_get, Option, Some, None}
+use Rattle.std.specs.Prelude.{ℕ, ◌+◌, ◌-◌, Bool, true, false, ◌||◌, List, [], ◌∷◌, ◌++◌, length, take, drop, remove, slice_get, Option, Some, None}
 use Rattle.pp_framing.specs.declared.body.Ending.{Ending}
 use Rattle.pp_framing.specs.declared.body.Ending.TheVariants.{Whole, Short}
-use Rattle.pp_pipe.specs.Asks.{all_taken, fresh, out_room, total, with_body}
+use Rattle.pp_pipe.specs.Asks.{all_taken, fresh, out_room, total}
 use Rattle.pp_pipe.specs.Reading.{Reading, Before, Closed, fate_in}
 use Rattle.pp_pipe.specs.declared.asks.Ask.{Ask}
 use Rattle.pp_pipe.specs.declared.fate.Fate.{Fate}
@@ -22,7 +22,7 @@ pub record Line : Type 0 where
 abbrev pub started : ℕ → Line
 started id = record { id = id; out = []; stray = 0; asks = []; reading = Before []; has_answered = false; may_pipeline = false }
 
--- how many bytes may be pushed or appended
+-- how many bytes may be pushed
 abbrev pub room_of : Line → ℕ
 room_of line = out_room - length line.out
 
@@ -33,10 +33,6 @@ pushed text head_request line = record line { out = line.out ++ text; asks = lin
 abbrev pub pushed_where : Bool → List ℕ → Bool → Line → Line
 pushed_where true text head_request line = pushed text head_request line
 pushed_where false text head_request line = line
-
--- bytes of the body of the one ask that is there
-abbrev pub appended : List ℕ → Line → Line
-appended bytes line = record line { out = line.out ++ bytes; asks = map (with_body (length bytes)) line.asks }
 
 -- so many bytes were written
 abbrev pub taken : ℕ → Line → Line

@@ -1,5 +1,5 @@
 // Where in a response the bytes stand.
-ghost use Rattle.std.specs.Prelude.{◌≡◌, ◌≤◌, true, [], length, is_some, IfOk, IfSome, option_map};
+ghost use Rattle.std.specs.Prelude.{◌≡◌, ◌≤◌, true, [], length, IfOk, IfSome, option_map};
 ghost use Rattle.pp_head.specs.Shown.{shown_response};
 ghost use Rattle.pp_pipe.specs.Answers.{IsBefore, IsBeforeFed, IsBeforeTold, IsWithinFed, WasRead};
 ghost use Rattle.pp_pipe.specs.Feeding.{IsFed};
@@ -82,16 +82,6 @@ impl Answer {
         match &self.stage {
             Stage::Body { fate, .. } => *fate,
             Stage::Head | Stage::Closed | Stage::Broken => Fate::Closes,
-        }
-    }
-
-    /// Whether a response is read whose head came.
-    pub(crate) fn is_within(&self) -> bool
-        ensures { result ≡ is_some (head_in self.now) }
-    {
-        match &self.stage {
-            Stage::Body { .. } => true,
-            Stage::Head | Stage::Closed | Stage::Broken => false,
         }
     }
 

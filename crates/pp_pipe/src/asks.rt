@@ -1,11 +1,11 @@
 // The asks that are not answered whole.
 ghost use Rattle.std.specs.Prelude.{◌≡◌, ℕ, ◌-◌, ◌≤◌, count_by};
-ghost use Rattle.pp_pipe.specs.Asks.{all_taken, ask_taken, awaited as awaited_of, is_outstanding, out_room, size_of, total as total_of};
+ghost use Rattle.pp_pipe.specs.Asks.{all_taken, ask_taken, awaited as awaited_of, is_outstanding, out_room, total as total_of};
 
 /// Asks that a connection has at most.
 pub const MAX_ASKS: usize = 8;
 
-/// An ask: the text of a request's head, and what was appended of its body.
+/// An ask: the text of a request's head. Its body does not go through the pipe.
 #[derive(Clone, Copy, Debug, Default, PartialEq, Eq)]
 pub(crate) struct Ask {
     /// Its method is HEAD, so that the response has no body.
@@ -14,22 +14,18 @@ pub(crate) struct Ask {
     pub(crate) is_begun: bool,
     /// Bytes of its text that were not taken.
     pub(crate) text_left: usize,
-    /// Bytes of its body that were appended and not taken.
-    pub(crate) body_left: usize,
 }
 
 impl Ask {
     /// So many bytes of it were taken, as far as it has them. Answers how many are left of them.
     fn take(&mut self, n: usize) -> usize
         ensures ask { self.new ≡ ask_taken n self.old }
-        ensures left { result ≡ n - size_of self.old }
+        ensures left { result ≡ n - self.old.text_left }
     {
-        let of_text = n.min(self.text_left);
-        let of_body = (n - of_text).min(self.body_left);
-        self.is_begun = self.is_begun || of_text + of_body > 0;
-        self.text_left -= of_text;
-        self.body_left -= of_body;
-        n - of_text - of_body
+        let taken = n.min(self.text_left);
+        self.is_begun = self.is_begun || taken > 0;
+        self.text_left -= taken;
+        n - taken
     }
 }
 
@@ -60,7 +56,7 @@ pub(crate) fn total(asks: &[Ask]) -> usize
 {
     let mut sum = 0;
     for ask in asks {
-        sum += ask.text_left + ask.body_left;
+        sum += ask.text_left;
     }
     sum
 }

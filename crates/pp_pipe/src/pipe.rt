@@ -1,11 +1,11 @@
 // A connection to an origin.
-ghost use Rattle.std.specs.Prelude.{◌≡◌, ◌↔◌, ◌≤◌, ◌<◌, ℕ, true, List, [], ◌∷◌, ◌++◌, map, drop, length, count_by, option_map, is_some, IfOk, IfSome, IsErr, is_ok, not};
+ghost use Rattle.std.specs.Prelude.{◌≡◌, ◌↔◌, ◌≤◌, ◌<◌, ℕ, true, List, [], ◌∷◌, ◌++◌, drop, length, count_by, option_map, IfOk, IfSome, IsErr, is_ok, not};
 ghost use Rattle.std.specs.List.{concat, remove};
 ghost use Rattle.pp_head.specs.Shown.{shown_response};
 ghost use Rattle.pp_pipe.specs.Answers.{WasRead};
 ghost use Rattle.pp_pipe.specs.Asks.{awaited, is_outstanding, max_asks};
 ghost use Rattle.pp_pipe.specs.Feeding.{IsFed, IsUsed};
-ghost use Rattle.pp_pipe.specs.Line.{answered, appended, ended_with, is_begun_at, pushed_where, room_of, started, stepped, taken, withdrawn_where};
+ghost use Rattle.pp_pipe.specs.Line.{answered, ended_with, is_begun_at, pushed_where, room_of, started, stepped, taken, withdrawn_where};
 ghost use Rattle.pp_pipe.specs.Reading.{ending_at, head_in};
 ghost use Rattle.pp_pipe.specs.Tale.{asks_behind, tale, told};
 ghost use Rattle.pp_pipe.specs.Texts.{stray_of, texts_of};
@@ -105,13 +105,6 @@ impl Pipe {
         outstanding(&self.asks)
     }
 
-    /// Whether a whole final response came.
-    pub fn has_answered(&self) -> bool
-        ensures { result ≡ self.now.has_answered }
-    {
-        self.has_answered
-    }
-
     /// Whether a whole final response of HTTP/1.1 without `close` came (RFC 2616, section 8.1.2.2:
     /// "Clients which assume persistent connections and pipeline immediately after connection
     /// establishment SHOULD be prepared to retry").
@@ -137,14 +130,12 @@ impl Pipe {
             head_request,
             is_begun: false,
             text_left: ask.len(),
-            body_left: 0,
         });
         self.out.push(ask);
         Ok(())
     }
 
-    /// What is to be written: the texts of the asks, and what was appended to them, that was not
-    /// taken.
+    /// What is to be written: the texts of the asks, as far as they were not taken.
     #[tactic(auto, using(crate::proofs::Splitting::out_texts))]
     pub fn out(&self) -> &[u8]
         ensures line { result.now ≡ self.now.out }
@@ -164,23 +155,11 @@ impl Pipe {
         take(&mut self.asks, n - of_stray);
     }
 
-    /// How many bytes may be pushed or appended: 131,072 less those that are to be written.
+    /// How many bytes may be pushed: 131,072 less those that are to be written.
     pub fn room(&self) -> usize
         ensures { result ≡ room_of self.now }
     {
         OUT_ROOM - self.out.as_slice().len()
-    }
-
-    /// Puts bytes of the body of the one ask behind it.
-    #[tactic(auto, using(crate::proofs::Splitting::append_texts))]
-    pub fn append(&mut self, bytes: &[u8])
-        requires one { length self.old.asks ≡ 1 }
-        requires room { length bytes.now ≤ room_of self.old }
-        ensures line { self.new ≡ appended bytes.now self.old }
-        ensures texts { texts_of self.new ≡ map (λ t. t ++ bytes.now) (texts_of self.old) }
-    {
-        self.asks[0].body_left += bytes.len();
-        self.out.push(bytes);
     }
 
     /// Takes an ask out, with what of it was to be written; `place` counts from the first that is not
@@ -228,14 +207,6 @@ impl Pipe {
         (used, step)
     }
 
-    /// Whether the head of a response came that is not whole: what is `Bad` then is its body, and else
-    /// its head.
-    pub fn is_answering(&self) -> bool
-        ensures { result ≡ is_some (head_in self.now.reading) }
-    {
-        self.answer.is_within()
-    }
-
     /// The head of the response that comes. `None` exactly before a `Head` and after its `End`.
     pub fn head<'a, 's>(&'a self, scratch: &'s mut Scratch) -> Option<ResponseHead<'a, 's>>
         ensures head { option_map shown_response result ≡ head_in self.now.reading }
@@ -266,7 +237,7 @@ impl Pipe {
         self.has_answered = true;
         self.may_pipeline = self.may_pipeline || fate == Fate::Pipelines;
         if let Some(ask) = self.asks.first() {
-            self.stray += ask.text_left + ask.body_left;
+            self.stray += ask.text_left;
             self.asks.remove(0);
         }
     }

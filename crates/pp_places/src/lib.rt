@@ -6,7 +6,7 @@
 //! To the layer above: places are those of `specs/Placing.antt`, one behind the other, with each dial and its answer; what
 //! nobody will see leaves its line as `Origins` of `pp_desk` says.
 //!
-//! Which connection would do is for `pp_peers`, whether anybody will see an exchange for `pp_steps`.
+//! Which connection would do is for `pp_peers`, whether anybody will see an exchange for `pp_state`.
 #![tactic(auto)]
 
 mod dialling; // an exchange that needs a new connection

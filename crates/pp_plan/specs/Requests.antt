@@ -1,5 +1,6 @@
 -- What a request says of its decision (RFC 2616, sections 9 and 14; RFC 7232; RFC 7233).
-use Rattle.std.specs.Prelude.{ℕ, Bool, true, false, ◌||◌, nat_lt, List, codes, bytes_eq, Option, Some, None, unwrap_or, option_and_then}
+use Rattle.std.specs.Prelude.{ℕ, Bool, true, false, ◌&&◌, ◌||◌, not, nat_eq, nat_lt, List, codes, bytes_eq, is_some, Option, Some, None, unwrap_or, option_and_then}
+use Rattle.std.specs.List.{starts_with}
 use Rattle.pp_text.specs.Fields.{Field, first_value, has_field}
 use Rattle.pp_text.specs.Numbers.{number_of}
 use Rattle.pp_fresh.specs.Directives.{directives_of}
@@ -39,7 +40,17 @@ is_suffix (Some (Span first last)) = false
 is_suffix (Some (From first)) = false
 is_suffix (Some (Last length)) = true
 
+-- If-Range = entity-tag / HTTP-date: "A client MUST NOT generate an If-Range header field containing an entity tag that is
+-- marked as weak", and what is no strong tag, which begins with a quotation mark, only the origin judges (RFC 9110, section 13.1.5)
+abbrev pub is_judged_by_origin : Option (List ℕ) → Bool
+is_judged_by_origin None = false
+is_judged_by_origin (Some value) = not (starts_with nat_eq value (codes "\""))
+
+-- a part of what stands as it did at that date
+abbrev pub is_resumed : List Field → Bool
+is_resumed fields = is_some (range_of fields) && is_judged_by_origin (first_value (codes "if-range") fields)
+
 -- where nothing is known, these ask for less than a whole or a range whose ends are known
 abbrev pub is_conditional : List Field → Bool
 is_conditional fields =
-    (is_suffix (range_of fields) || has_field (codes "if-none-match") fields) || has_field (codes "if-modified-since") fields
+    ((is_suffix (range_of fields) || is_resumed fields) || has_field (codes "if-none-match") fields) || has_field (codes "if-modified-since") fields

@@ -1,6 +1,7 @@
 // What a request says of its decision.
-ghost use Rattle.std.specs.Prelude.{◌≡◌};
-ghost use Rattle.pp_plan.specs.Requests.{is_conditional, is_connect, is_get, is_head, is_suffix, length_of, never_uses};
+ghost use Rattle.std.specs.Prelude.{◌≡◌, codes};
+ghost use Rattle.pp_text.specs.Fields.{first_value};
+ghost use Rattle.pp_plan.specs.Requests.{is_conditional, is_connect, is_get, is_head, is_judged_by_origin, is_resumed, is_suffix, length_of, never_uses};
 
 use pp_fresh::Directives;
 use pp_ranges::{Range, read_range};
@@ -48,12 +49,30 @@ fn length_of(fields: &Fields<'_, '_>) -> u64
 }
 
 /// Whether the request asks, of what is not known, for less than the whole: for a part that only the
-/// length tells, or for what the client does not have.
+/// length tells, for the rest of what the client has by its date, or for what the client does not have.
 pub fn is_conditional(fields: &Fields<'_, '_>) -> bool
     ensures { result ≡ is_conditional fields.now }
 {
-    let has_suffix = is_suffix(read_range(fields));
-    has_suffix || fields.has(b"if-none-match") || fields.has(b"if-modified-since")
+    let is_part = is_suffix(read_range(fields)) || is_resumed(fields);
+    is_part || fields.has(b"if-none-match") || fields.has(b"if-modified-since")
+}
+
+/// Whether the range counts where If-Range holds, and only the origin can say whether it does.
+fn is_resumed(fields: &Fields<'_, '_>) -> bool
+    ensures { result ≡ is_resumed fields.now }
+{
+    read_range(fields).is_some() && is_judged_by_origin(fields)
+}
+
+/// Whether the request has an If-Range that is no strong tag, but a date or a weak one (RFC 9110,
+/// section 13.1.5).
+fn is_judged_by_origin(fields: &Fields<'_, '_>) -> bool
+    ensures { result ≡ is_judged_by_origin (first_value (codes "if-range") fields.now) }
+{
+    let Some(value) = fields.first(b"if-range") else {
+        return false;
+    };
+    !value.starts_with(b"\"")
 }
 
 fn is_suffix(range: Option<Range>) -> bool

@@ -37,7 +37,7 @@ pub enum Begun {
 /// | 3 | | its exchange brought `Other` | `Relay` |
 /// | 4 | | its exchange brought `Widened` | `Pass` |
 /// | 5 | is HEAD | no row, or one that is not ready | `Pass` |
-/// | 6 | has a suffix range, If-None-Match or If-Modified-Since | no row | `Pass` |
+/// | 6 | has a suffix range, one with an If-Range that is no strong tag, If-None-Match or If-Modified-Since | no row | `Pass` |
 /// | 7 | | no row | `Fetch` |
 /// | 8 | | the row is not ready | `Validate` |
 /// | 9 | its client has the version already | | `NotModified` |

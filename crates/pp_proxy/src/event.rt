@@ -31,8 +31,8 @@ use pp_state::State;
 use pp_talk::{hear, load_and_say};
 use pp_world::{Event, Source, Wire, World};
 
-/// Ours: a tick that comes so many seconds behind the last one, as long as a client may be idle, tells of a computer
-/// that was asleep.
+/// Ours: a tick that comes so many seconds behind the last one, as long as a client that is amid no reply may be idle, tells
+/// of a computer that was asleep.
 const LEAP_SECONDS: u64 = 120;
 
 /// Takes the event in.

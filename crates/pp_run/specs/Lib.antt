@@ -3,3 +3,4 @@ pub mod Lives
 pub mod Serving
 pub mod Breaks
 pub mod Exits
+pub mod Runs

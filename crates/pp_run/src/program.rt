@@ -7,10 +7,11 @@ ghost use Rattle.pp_recover.specs.Opening.{IsFresh};
 ghost use Rattle.pp_conf.specs.Shown.{shown_text};
 ghost use Rattle.pp_conf.specs.Words.{file_of, has_reading};
 ghost use Rattle.pp_demo.specs.Summary.{summary_text};
-ghost use Rattle.pp_run.specs.Breaks.{BreaksAs, BreaksWith};
+ghost use Rattle.pp_run.specs.Breaks.{BreaksWith};
 ghost use Rattle.pp_run.specs.Lines.{fault_line};
-ghost use Rattle.pp_run.specs.Exits.{exit_of, EndsAs, JudgesWords, ShowsAs, StartsAs};
-ghost use Rattle.pp_run.specs.Lives.{HasRead, HasServed, ServingBy, outside};
+ghost use Rattle.pp_run.specs.Exits.{exit_of, JudgesWords, ShowsAs, StartsAs};
+ghost use Rattle.pp_run.specs.Lives.{HasRead, ServingBy, outside};
+ghost use Rattle.pp_run.specs.Runs.{RunsAs};
 
 use crate::Exit;
 use crate::lines::{NO_MEMORY_LINE, UNREAD_LINE, fault_line};
@@ -27,10 +28,7 @@ use std::alloc::Global;
 /// began: nothing was done in its folder yet.
 pub fn run<W: World>(alloc: Global, words: &[String], world: &mut W) -> Exit
     requires { Told (W.log world.old) (λ l. (files : Files) × IsFresh files l) }
-    ensures words { JudgesWords (map string_bytes words.now) result }
-    ensures told { EndsAs (map string_bytes words.now) result (W.log world.old) (W.log world.new) (W.faults world.old) (W.faults world.new) }
-    ensures served { ServingBy (map string_bytes words.now) result (HasServed (map string_bytes words.now) result (outside (W.log world.old) (W.top world.old) (W.faults world.old)) (outside (W.log world.new) (W.top world.new) (W.faults world.new))) }
-    ensures breaks { BreaksAs (map string_bytes words.now) result (outside (W.log world.old) (W.top world.old) (W.faults world.old)) (outside (W.log world.new) (W.top world.new) (W.faults world.new)) }
+    ensures { RunsAs (map string_bytes words.now) result (outside (W.log world.old) (W.top world.old) (W.faults world.old)) (outside (W.log world.new) (W.top world.new) (W.faults world.new)) }
 {
     match config_name(alloc, words) {
         Ok(None) => start(alloc, words, None, world),
@@ -44,10 +42,7 @@ fn read_file<W: World>(alloc: Global, words: &[String], name: &str, world: &mut 
     requires reads { has_reading (map string_bytes words.now) ≡ true }
     requires named { file_of (map string_bytes words.now) ≡ Some name.now }
     requires fresh { Told (W.log world.old) (λ l. (files : Files) × IsFresh files l) }
-    ensures words { JudgesWords (map string_bytes words.now) result }
-    ensures told { EndsAs (map string_bytes words.now) result (W.log world.old) (W.log world.new) (W.faults world.old) (W.faults world.new) }
-    ensures served { ServingBy (map string_bytes words.now) result (HasServed (map string_bytes words.now) result (outside (W.log world.old) (W.top world.old) (W.faults world.old)) (outside (W.log world.new) (W.top world.new) (W.faults world.new))) }
-    ensures breaks { BreaksAs (map string_bytes words.now) result (outside (W.log world.old) (W.top world.old) (W.faults world.old)) (outside (W.log world.new) (W.top world.new) (W.faults world.new)) }
+    ensures { RunsAs (map string_bytes words.now) result (outside (W.log world.old) (W.top world.old) (W.faults world.old)) (outside (W.log world.new) (W.top world.new) (W.faults world.new)) }
 {
     match world.config(alloc, name) {
         Ok(text) => start(alloc, words, Some(text.as_slice()), world),
@@ -86,10 +81,7 @@ fn show<W: World>(alloc: Global, seed: u64, world: &mut W) -> Exit
             tell(&shown.summary, world);
             Exit::Served
         }
-        Err(_) => {
-            let _ = refuse(ConfFault::OutOfMemory, world);
-            Exit::NoMemory
-        }
+        Err(_) => refuse(ConfFault::OutOfMemory, world),
     }
 }
 

@@ -75,7 +75,8 @@ fn next_life(
     Ok(world)
 }
 
-/// Serves to the end of the world's script.
+/// Serves to the end of the world's script. No exit comes but that it served, or that memory was refused: a world in memory fails only where it is
+/// told to, and those of the demo are told nothing (tested, and not proved).
 fn live(alloc: Global, conf: &Conf, world: &mut MemWorld) -> Result<(), OutOfMemory>
     requires { Told (told_log world.old) (λ l. (files : Files) × IsFresh files l) }
 {

@@ -132,9 +132,14 @@ is_end_short (Some x) = ends_short x.end
 abbrev pub is_short_in : Brought → Bool
 is_short_in brought = is_end_short (passed_in brought)
 
--- ours: for so many seconds nothing came from it, and nothing was said to it
+-- ours: so many seconds, and longer in the midst of a reply, where one that reads slowly shows that only once the system's buffer has
+-- room again
+abbrev pub patience_in : Seat → ℕ
+patience_in seat = elim (has_begun seat) [ true ↦ 900 | false ↦ 120 ]
+
+-- for so long nothing came from it, and nothing was said to it
 abbrev pub is_idle_in : Bool → ℕ → Seat → Bool
-is_idle_in is_ticked now seat = is_ticked && nat_le 120 (now - seat.client.mark)
+is_idle_in is_ticked now seat = is_ticked && nat_le (patience_in seat) (now - seat.client.mark)
 
 -- the first cause that applies, by whether nothing that came is left to say, and whether another version stands
 abbrev pub cause_in : Bool → Bool → Seat → Bool → Bool → Option Cause

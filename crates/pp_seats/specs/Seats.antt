@@ -54,16 +54,6 @@ is_undecided_in Waiting = false
 is_undecided_in Passing = false
 is_undecided_in (Answering a) = false
 
--- by whether a request is there, and whether the head of its exchange's response came
-abbrev pub is_open_in : Stage → Bool → Bool → Bool
-is_open_in Undecided there told = there
-is_open_in Waiting there told = told
-is_open_in Passing there told = false
-is_open_in (Answering a) there told = not a.has_begun
-
-abbrev pub is_to_be_decided : Seat → Bool
-is_to_be_decided seat = not seat.is_closing && is_open_in seat.stage (is_there_in seat.front) (is_told_in seat.brought)
-
 abbrev pub has_key : List ℕ → Seat → Bool
 has_key text seat = is_key_text text (owned_in (asked_in seat.front))
 

@@ -7,11 +7,11 @@
 //! are said (`specs/Said.antt`), how often a request may lose an attempt, and what it is where its row is lost
 //! (`specs/Courses.antt`; RFC 2616, section 8.1.4); what is kept of a head (`specs/Heads.antt`), and how far its request is
 //! (`specs/Seats.antt`); what a decision makes of it (`specs/Decided.antt`); what is asked for it first (`specs/Fetches.antt`).
-//! `specs/Dues.antt` says what is due to a client, by what a turn knows of the row of its key: that is for `pp_steps`.
+//! `specs/Dues.antt` says what is due to a client, by what a turn knows of the row of its key: that is for `pp_due`.
 //!
 //! A seat takes memory for the key of its request, and for the first line of it where the operator keeps a log
 //! (`specs/Accounts.antt`). Where a request's head ends is for `pp_client`, what a request gets
-//! for `pp_plan`, and what a turn makes of both for `pp_steps`.
+//! for `pp_plan`, and what a turn makes of both for `pp_due` and `pp_take`.
 #![tactic(auto)]
 
 mod account; // what the operator's log is to say

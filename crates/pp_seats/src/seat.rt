@@ -6,7 +6,7 @@ ghost use Rattle.pp_seats.specs.Accounts.{HasLine, begun, line_in, line_of};
 ghost use Rattle.pp_seats.specs.Courses.{has_begun, is_trying_in, lost_one, without_row, without_shared_row};
 ghost use Rattle.pp_seats.specs.Said.{used_by};
 ghost use Rattle.pp_seats.specs.Follows.{answer_in, next_of};
-ghost use Rattle.pp_seats.specs.Seats.{IsRead, at_next_request, brought_to, finished_in, has_key, is_at_body, is_silent, is_to_be_decided, is_told_in, new_seat, passed_in, told_by, without_body};
+ghost use Rattle.pp_seats.specs.Seats.{IsRead, at_next_request, brought_to, finished_in, has_key, is_at_body, is_silent, is_told_in, new_seat, passed_in, told_by, without_body};
 
 use crate::account::{Account, line_of};
 use crate::front::Front;
@@ -339,21 +339,6 @@ impl Seat {
         ensures { result ≡ is_at_body self.now }
     {
         self.has_begun() && self.before_body == 0
-    }
-
-    /// Its request may be decided now.
-    pub fn is_to_be_decided(&self) -> bool
-        ensures { result ≡ is_to_be_decided self.now }
-    {
-        if self.is_closing {
-            return false;
-        }
-        match self.stage {
-            Stage::Undecided => self.front.is_there(),
-            Stage::Waiting => self.is_told(),
-            Stage::Passing => false,
-            Stage::Answering(answer) => !answer.has_begun,
-        }
     }
 
     /// More may be asked for its request.

@@ -335,7 +335,7 @@ cuts number s name seat c shows =
     ∙ guarded (is_begun c) (not (is_trying_in seat.course)) (not (is_trying c.course)) (λ there. ap not (fate_trying number name seat.client.reply seat.course seat.brought c shows.fate there)))
     ∙ turned (is_begun c) (not (is_trying c.course)) dry)
     (ap (λ (b : Bool). b && is_superseded s c) is)
-    (ap (λ (n : ℕ). s.is_ticked && nat_le 120 (s.clock - n)) shows.mark)
+    (ap₂ (λ (b : Bool) (n : ℕ). s.is_ticked && nat_le (elim b as (λ x. ℕ) [ true ↦ 900 | false ↦ 120 ]) (s.clock - n)) is shows.mark)
     ∙ first_cause (s.is_stopped && is_begun c) (is_dry s c && is_short c) (is_dry s c && not (is_trying c.course)) (is_begun c && is_superseded s c) (is_idle s c)
 
 -- ---- both

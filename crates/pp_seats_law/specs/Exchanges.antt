@@ -10,10 +10,10 @@ use Rattle.pp_fresh.specs.Guessing.{allows_guess}
 use Rattle.pp_objects.specs.declared.id.ObjectId.{ObjectId}
 use Rattle.pp_pipe.specs.Authentication.{binds_connection}
 use Rattle.pp_target.specs.Key.{key_in, text_of}
-use Rattle.pp_valid.specs.Codings.{accepts_only_identity}
 use Rattle.pp_law.specs.Connections.{attempts_of, is_outstanding}
 use Rattle.pp_law.specs.Requests.{goes_alone, is_asked_once, is_safe}
 use Rattle.pp_law.specs.Responses.{asks_head}
+use Rattle.pp_law.specs.OwnHeads.{asks_only_identity}
 use Rattle.pp_law.specs.Stages.{bound_of, is_headed}
 use Rattle.pp_law.specs.State.{Body, Pending, Joining, Relaying, Dropping, Bound, Exchange}
 use Rattle.pp_seats_law.specs.Fates.{aim_of}
@@ -63,7 +63,7 @@ pub record ShowsExchange (numbers : ℕ → ℕ) (x : Entry) (e : Exchange) : Ty
   pub asks_head : x.errand.asks_head ≡ asks_head e
   pub is_safe : x.errand.is_safe ≡ is_safe e.head
   pub binds : x.errand.binds_connection ≡ binds_connection e.head.fields
-  pub identity : x.errand.accepts_only_identity ≡ accepts_only_identity e.head.fields
+  pub identity : x.errand.accepts_only_identity ≡ asks_only_identity e
   pub guess : x.errand.allows_guess ≡ allows_guess (text_of e.key) e.head.fields
   pub text : x.text.items ≡ e.text
   pub asked : x.errand.asked ≡ e.asked

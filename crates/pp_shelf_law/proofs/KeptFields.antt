@@ -20,7 +20,7 @@ use Rattle.pp_text.specs.Bytes.{lower}
 use Rattle.pp_text.specs.Fields.{Field, is_named}
 use Rattle.pp_text.specs.Forwarding.{hop_names, is_connection_token, is_private}
 use Rattle.pp_text.specs.Lines.{lines_of}
-use Rattle.pp_valid.specs.Kept.{date_value, is_renewed, is_written_anew}
+use Rattle.pp_valid.specs.Kept.{date_value, is_of_one_message, is_renewed}
 use Rattle.pp_valid.specs.TagStates.{tag_of}
 use Rattle.pp_valid.specs.Versions.{strong_part}
 use Rattle.pp_shelf_law.specs.AsKept.{AllowedOnesAreKept, ReadOnesAreKept}
@@ -151,7 +151,7 @@ its_date f fs came is dated =
 -- ---- all of them
 
 does_last : (all : List Field) (f : Field) → may_be_kept all f ≡ true → is_named (codes "date") f ≡ false → is_renewed f ≡ false → lasts f ≡ true
-does_last all f may d r = by (list_any (λ name. is_named name f) hop_names) (is_connection_token all f) (is_private f) (is_named (codes "date") f) (is_written_anew f) (is_renewed f) d r may
+does_last all f may d r = by (list_any (λ name. is_named name f) hop_names) (is_connection_token all f) (is_private f) (is_named (codes "date") f) (is_of_one_message f) (is_renewed f) d r may
   where
     by : (a t p n w x : Bool) → n ≡ false → x ≡ false → (not (a || t || p) && (n || not w)) ≡ true → (not (a || false || p) && not (w || x)) ≡ true
     by true t p n w x is_n is_x may = absurd cc

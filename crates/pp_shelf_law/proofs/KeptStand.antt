@@ -17,7 +17,7 @@ use Rattle.pp_text.specs.Fields.{Field, is_named}
 use Rattle.pp_text.specs.Forwarding.{is_hop_by_hop}
 use Rattle.pp_text.specs.Lines.{lines_of}
 use Rattle.pp_valid.specs.EndToEnd.{end_to_end_values}
-use Rattle.pp_valid.specs.Kept.{date_value, is_renewed, is_written_anew, lasting_fields}
+use Rattle.pp_valid.specs.Kept.{date_value, is_of_one_message, is_renewed, lasting_fields}
 use Rattle.pp_shelf_law.specs.AsKept.{KeptOnesAreAllowed}
 use Rattle.pp_shelf_law.proofs.Assigned.{assigned_read}
 use Rattle.pp_shelf_law.proofs.KeptFields.{PlaceOf, control, date, dated_by, expires, lasting, placed}
@@ -91,7 +91,7 @@ abbrev alone_at : Test
 alone_at t = not (is_hop t) && (bytes_eq (lower (codes "date")) t || not (is_anew t))
 
 lasting_may : (f : Field) → lasts f ≡ true → alone f ≡ true
-lasting_may f last = by (is_hop_by_hop [] f) (is_named (codes "date") f) (is_written_anew f) (is_renewed f) last
+lasting_may f last = by (is_hop_by_hop [] f) (is_named (codes "date") f) (is_of_one_message f) (is_renewed f) last
   where
     by : (h n w x : Bool) → (not h && not (w || x)) ≡ true → (not h && (n || not w)) ≡ true
     by true n w x is = absurd cc
@@ -111,7 +111,7 @@ control_may f is = by_name alone_at (codes "cache-control") f is
 all_may : (all : List Field) → ((f : Field) → is_hop_by_hop all f ≡ is_hop_by_hop [] f) → (fs : List Field) → AllOf alone fs → list_all (may_be_kept all) fs ≡ true
 all_may all same [] held = refl
 all_may all same (f ∷ fs) held =
-    both_hold (may_be_kept all f) (list_all (may_be_kept all) fs) (ap (λ (b : Bool). not b && (is_named (codes "date") f || not (is_written_anew f))) (same f) ∙ held.0) (all_may all same fs held.1)
+    both_hold (may_be_kept all f) (list_all (may_be_kept all) fs) (ap (λ (b : Bool). not b && (is_named (codes "date") f || not (is_of_one_message f))) (same f) ∙ held.0) (all_may all same fs held.1)
 
 -- ---- all of it
 

@@ -18,7 +18,6 @@ ask_again ask e d same shows = record {
   to_head = shows.to_head ∙ sym same.to_head;
   is_begun = shows.is_begun ∙ ap (λ (n : ℕ). nat_lt 0 n) (sym same.asked);
   text = ap (λ (n : ℕ). n + ask.text_left) same.asked ∙ shows.text ∙ ap (λ (t : Bytes). length t) (sym same.text);
-  body = shows.body;
 }
 
 pub line_again : (s t : State) (line : List ℕ) (asks : List Ask) → AreAskedAs s t line → ShowsLine s line asks → ShowsLine t line asks

@@ -14,7 +14,7 @@
 //!
 //! `new`, `keep`, `found` and `close` take memory, before they touch the disk. An entry is found by its name
 //! in steps that grow with the logarithm of their number; to take one out takes time in their number.
-//! Which responses are kept is for the core, what an earlier life left is for `pp_recover`.
+//! Which responses are kept is for `pp_keeping`, what an earlier life left is for `pp_recover`.
 #![tactic(auto)]
 
 mod extending; // more of a body

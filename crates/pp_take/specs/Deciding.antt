@@ -1,5 +1,5 @@
 -- What a decision does: a page, an exchange, or a reply by the row (RFC 2616, sections 13 and 14).
-use Rattle.std.specs.Prelude.{ℕ, ◌≡◌, ◌+◌, ◌%◌, Bool, true, false, ◌==◌, ◌&&◌, not, nat_lt, length, List, [], ◌∷◌, ◌++◌, is_some, slice_get, Option, Some, None, option_map, option_and_then}
+use Rattle.std.specs.Prelude.{ℕ, ◌≡◌, ◌+◌, ◌%◌, Bool, true, false, ◌==◌, ◌&&◌, ◌||◌, not, nat_lt, length, List, [], ◌∷◌, ◌++◌, is_some, slice_get, Option, Some, None, option_map, option_and_then}
 use Rattle.pp_cache.specs.Memory.{Memory}
 use Rattle.pp_client.specs.Requests.{Front, Nothing, Begun, Asked as IsAsked, Refused, current_of}
 use Rattle.pp_flow.specs.Changes.{Exchanges, entry_of}
@@ -12,6 +12,7 @@ use Rattle.pp_flow.specs.declared.entry.Exchange.{Exchange}
 use Rattle.pp_flow.specs.declared.errand.Body.TheVariants.{Pending}
 use Rattle.pp_flow.specs.declared.errand.Errand.{Errand}
 use Rattle.pp_flow.specs.declared.errand.Kind.{Kind}
+use Rattle.pp_flow.specs.declared.errand.Kind.TheVariants.{Whole, Range as OfRange, Hole, Check, Pass as AsPassed}
 use Rattle.pp_fresh.specs.Guessing.{allows_guess}
 use Rattle.pp_head.specs.Request.{Request}
 use Rattle.pp_objects.specs.Changes.{changed_in, followed, marked}
@@ -105,6 +106,14 @@ IsRefused i status old new = GetsPage status i (left_all i old) new
 
 -- ---- an exchange
 
+-- bytes of a version are asked for, and no wish of the client for codings goes with them
+abbrev pub asks_hole : Kind → Bool
+asks_hole Whole = false
+asks_hole (OfRange first last) = false
+asks_hole (Hole first last tag) = true
+asks_hole (Check tag) = false
+asks_hole AsPassed = false
+
 -- nothing of it is asked yet
 abbrev pub errand_by : Asked → Key → Request → Kind → Errand
 errand_by a key head kind = record {
@@ -115,7 +124,7 @@ errand_by a key head kind = record {
   asks_head = false;
   is_safe = a.is_safe;
   binds_connection = a.binds_connection;
-  accepts_only_identity = accepts_only_identity head.fields;
+  accepts_only_identity = asks_hole kind || accepts_only_identity head.fields;
   allows_guess = allows_guess key.text.items head.fields;
   asked = 0;
   body_left = 0;

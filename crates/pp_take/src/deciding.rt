@@ -1,12 +1,13 @@
 // What a decision does: a page, an exchange, or a reply by the row (RFC 2616, sections 13 and 14).
-ghost use Rattle.std.specs.Prelude.{◌≡◌, IfSome, option_map};
+ghost use Rattle.std.specs.Prelude.{◌≡◌, ◌||◌, IfSome, option_map};
 ghost use Rattle.pp_head.specs.Shown.{shown_request};
 ghost use Rattle.pp_objects.specs.Instances.{id_of, in_slot};
 ghost use Rattle.pp_ranges.specs.Ranges.{range_of};
 ghost use Rattle.pp_seats.specs.Decided.{answering, asking, with_interim};
-ghost use Rattle.pp_take.specs.Deciding.{Does, IsPaged, IsRefused, Takes, afforded, aim_for, answered_at, ask_at, ask_by, asks_origin, begun_at, exchange_begun, followed_at, followed_more, is_moved_in, is_pass, is_served_by, left_useless, marked_at, marked_for, may_ask_for, of_request, origin_asked, relayed, row_at};
+ghost use Rattle.pp_take.specs.Deciding.{Does, IsPaged, IsRefused, Takes, afforded, aim_for, answered_at, ask_at, ask_by, asks_hole, asks_origin, begun_at, exchange_begun, followed_at, followed_more, is_moved_in, is_pass, is_served_by, left_useless, marked_at, marked_for, may_ask_for, of_request, origin_asked, relayed, row_at};
 ghost use Rattle.pp_state.specs.Ends.{KeepsRest, numbers_of, on_seat, parts};
 ghost use Rattle.pp_state.specs.Places.{IsChangedAt};
+ghost use Rattle.pp_valid.specs.Codings.{accepts_only_identity};
 
 use arrayvec::ArrayVec;
 use pp_ask::ASK_LEN;
@@ -237,6 +238,7 @@ pub(crate) fn errand_of(
     if !write_text(state, head, key, &kind, text) {
         return None;
     }
+    let is_identity = asks_only_identity(&kind, head);
     Some(Errand {
         kind,
         place: *key.place(),
@@ -245,13 +247,21 @@ pub(crate) fn errand_of(
         asks_head: false,
         is_safe: asked.is_safe,
         binds_connection: asked.binds_connection,
-        accepts_only_identity: accepts_only_identity(&head.fields),
+        accepts_only_identity: is_identity,
         allows_guess: allows_guess(key.text(), &head.fields),
         asked: 0,
         body_left: 0,
         requested: 0,
         body: Body::Pending,
     })
+}
+
+/// Whether no wish for a coding goes with what is asked: the client has none, or bytes of a version
+/// are asked for.
+fn asks_only_identity(kind: &Kind, head: &RequestHead<'_, '_>) -> bool
+    ensures { result ≡ (asks_hole kind.now || accepts_only_identity (shown_request head.now).fields) }
+{
+    matches!(kind, Kind::Hole(_, _, _)) || accepts_only_identity(&head.fields)
 }
 
 // ---- a reply by the row

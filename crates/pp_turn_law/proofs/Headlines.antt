@@ -7,9 +7,11 @@ use Rattle.pp_law.specs.State.{Term}
 use Rattle.pp_laws_crash.proofs.CrashLaws.{all_said_was_sent, each_image_backed}
 use Rattle.pp_laws_found.proofs.FoundLaws.{acknowledged_found, acknowledged_recovered}
 use Rattle.pp_laws_replies.proofs.StoryHappenings.{replies_in_order}
+use Rattle.pp_laws_replies.proofs.StoryShown.{replies_show}
 use Rattle.pp_laws_replies.proofs.Usable.{rows_usable}
+use Rattle.pp_laws_sent.proofs.Hosts.{asks_go}
 use Rattle.pp_laws_sent.specs.Stands.{SentStandsInTheLog}
-use Rattle.pp_laws_sent.specs.Whole.{PassedIsOneWhole}
+use Rattle.pp_laws_sent.specs.Whole.{PassedIsOneSoFar, PassedIsOneWhole}
 use Rattle.pp_obeys.proofs.Obeying.{obeys_at_first}
 use Rattle.pp_world.specs.Disk.{IsLeftBehind}
 use Rattle.pp_world.specs.Files.{Files}
@@ -33,11 +35,14 @@ module _ (terms : List Term) (log : Log) (lawful : Lawful terms log) where
   left_of_disk : (front : Log) (image : Files) → IsFrontOf log front → IsLeftBehind front image → IsLeftBehind (state_after terms front).disk image
   left_of_disk front image is = (left terms (state_after terms front) front image (obeys_at_first terms front (front_lawful front is))).to
 
-pub have_headline : SentStandsInTheLog → PassedIsOneWhole → LawfulLogsHaveTheHeadline
-have_headline sent_stands passed_is_one_whole terms log lawful = record {
+pub have_headline : SentStandsInTheLog → PassedIsOneSoFar → PassedIsOneWhole → LawfulLogsHaveTheHeadline
+have_headline sent_stands passed_is_one_so_far passed_is_one_whole terms log lawful = record {
   replies_are_in_order = λ n. replies_in_order terms log n lawful;
   said_bytes_were_sent = λ front n offered bytes is. all_said_was_sent terms front n offered bytes (up_to terms log lawful front (Said n offered bytes) is);
+  replies_show_their_version = λ front is c r there amid begun by_row. replies_show terms front c r (front_lawful terms log lawful front is) there amid begun by_row;
   sent_stands_in_the_log = λ part there. sent_stands terms log part lawful there;
+  asks_go_to_their_hosts = λ number e asked. asks_go terms log number e lawful asked;
+  passed_is_one_response_so_far = λ front is c p there amid of. passed_is_one_so_far terms front (front_lawful terms log lawful front is) c p there amid of;
   passed_is_one_whole_response = λ front happening is c p there amid of over. passed_is_one_whole terms front happening (up_to terms log lawful front happening is) c p there amid of over;
   rows_are_fresh_or_checked = λ front n i d is by_row. rows_usable terms front n i d (up_to terms log lawful front (Noted (Taken n i d)) is) by_row;
   each_image_is_backed = λ front image is left. each_image_backed terms front image (front_lawful terms log lawful front is) (left_of_disk terms log lawful front image is left);

@@ -21,8 +21,8 @@ unfolding top_of
 no_number n = let none : top_of [] ≡ 0 = refl in omega (arith, none)
 
 pub first_wakes : FirstLivesWake
-first_wakes words budget files x rising few told =
-    let terms : List Term = (first_life words x.faults).terms budget in
+first_wakes words later budget files x rising few told =
+    let terms : List Term = (first_life words later x.faults).terms budget in
     record {
       state = start terms;
       obeys = record { lawful = tt; goes = record { phases = 0; done = tt; there = refl } };

@@ -4,9 +4,9 @@ use Rattle.std.specs.Global.{Global}
 use Rattle.std.specs.Prelude.{String, string_bytes}
 use Rattle.pp_law.specs.Lawful.{Lawful}
 use Rattle.pp_obeys.specs.Obeys.{Life}
-use Rattle.pp_run.specs.Breaks.{BreaksAs}
-use Rattle.pp_run.specs.Exits.{EndsAs, JudgesWords, asks_to_serve}
-use Rattle.pp_run.specs.Lives.{HasServed, Outside, ServingBy, has_served}
+use Rattle.pp_run.specs.Exits.{asks_to_serve}
+use Rattle.pp_run.specs.Lives.{HasServed, Outside, has_served}
+use Rattle.pp_run.specs.Runs.{RunsAs}
 use Rattle.pp_run.specs.declared.ending.Exit.{Exit}
 use Rattle.pp_run.specs.declared.ending.Exit.TheVariants.{NoConfig, NoDisk, NoListener, NoMemory, Served, ServedAstray, Usage}
 use Rattle.pp_world.specs.Files.{Files}
@@ -19,7 +19,7 @@ use Rattle.pp_turn_law.specs.Lives.{IsLawfulToItsEnd, ServedLivesAreLawful, Wake
 use Rattle.pp_turn_law.specs.Running.{Means, RunsBesideTheLaw, is_said}
 use Rattle.pp_turn_law.specs.Served.{most_happenings}
 
-module _ (lawful : ServedLivesAreLawful) (laws : LawfulLogsHaveTheHeadline) (words : List (String Global)) (exit : Exit) (x y : Outside) (judges : JudgesWords (map string_bytes words) exit) (ends : EndsAs (map string_bytes words) exit x.log y.log x.faults y.faults) (serves : ServingBy (map string_bytes words) exit (HasServed (map string_bytes words) exit x y)) (breaks : BreaksAs (map string_bytes words) exit x y)
+module _ (lawful : ServedLivesAreLawful) (laws : LawfulLogsHaveTheHeadline) (words : List (String Global)) (exit : Exit) (x y : Outside) (runs : RunsAs (map string_bytes words) exit x y)
     (life : Life) (budget : ℕ) (files : Files) (before after : Log) (wakes : Wakes life budget (map string_bytes words) files before x) (told : y.log ≡ Some after) (few : y.faults ≤ budget + life.base) (brief : length after < most_happenings) where
   abbrev front : Log
   front = before ++ Woke files ∷ []
@@ -32,12 +32,12 @@ module _ (lawful : ServedLivesAreLawful) (laws : LawfulLogsHaveTheHeadline) (wor
 
   by_serving : exit ≡ Served → asks_to_serve (map string_bytes words) ≡ true → EndsLawfully (life.terms budget) front y
   by_serving is asks =
-      let has : HasServed (map string_bytes words) Served x y = subst (λ (e : Exit). HasServed (map string_bytes words) e x y) is (serves (ap (λ (b : Bool). b && has_served exit) asks ∙ ap has_served is)) in
+      let has : HasServed (map string_bytes words) Served x y = subst (λ (e : Exit). HasServed (map string_bytes words) e x y) is (runs.served (ap (λ (b : Bool). b && has_served exit) asks ∙ ap has_served is)) in
       let it : IsLawfulToItsEnd life budget front y = lawful life budget words files before after x y wakes has told few brief in
       record { added = it.added; then = it.then; told = it.told; obeys = it.obeys; over = it.over }
 
   early : ends_early (map string_bytes words) exit ≡ true → EndsLawfully (life.terms budget) front y
-  early is = early_ends life budget words exit files before after x y is wakes judges ends breaks told few
+  early is = early_ends life budget words exit files before after x y is wakes runs.judges runs.ends runs.breaks told few
 
   all : (e : Exit) → exit ≡ e → is_said e ≡ true → EndsLawfully (life.terms budget) front y
   all Served is said = by (asks_to_serve (map string_bytes words)) refl
@@ -55,5 +55,5 @@ module _ (lawful : ServedLivesAreLawful) (laws : LawfulLogsHaveTheHeadline) (wor
   pub said_means : is_said exit ≡ true → Means (life.terms budget) front after y
   said_means said = means (all exit refl said)
 
-pub runs_beside : ServedLivesAreLawful → LawfulLogsHaveTheHeadline → (words : List (String Global)) (exit : Exit) (x y : Outside) → JudgesWords (map string_bytes words) exit → EndsAs (map string_bytes words) exit x.log y.log x.faults y.faults → ServingBy (map string_bytes words) exit (HasServed (map string_bytes words) exit x y) → BreaksAs (map string_bytes words) exit x y → RunsBesideTheLaw words exit x y
-runs_beside lawful laws words exit x y judges ends serves breaks life budget files before after wakes said told few brief = said_means lawful laws words exit x y judges ends serves breaks life budget files before after wakes told few brief said
+pub runs_beside : ServedLivesAreLawful → LawfulLogsHaveTheHeadline → (words : List (String Global)) (exit : Exit) (x y : Outside) → RunsAs (map string_bytes words) exit x y → RunsBesideTheLaw words exit x y
+runs_beside lawful laws words exit x y runs life budget files before after wakes said told few brief = said_means lawful laws words exit x y runs life budget files before after wakes told few brief said

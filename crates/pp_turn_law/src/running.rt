@@ -1,9 +1,8 @@
 // `run` beside the law.
 ghost use Rattle.std.specs.Prelude.{map, string_bytes};
 ghost use Rattle.pp_recover.specs.Opening.{IsFresh};
-ghost use Rattle.pp_run.specs.Breaks.{BreaksAs};
-ghost use Rattle.pp_run.specs.Exits.{EndsAs, JudgesWords};
-ghost use Rattle.pp_run.specs.Lives.{HasServed, ServingBy, outside};
+ghost use Rattle.pp_run.specs.Lives.{outside};
+ghost use Rattle.pp_run.specs.Runs.{RunsAs};
 ghost use Rattle.pp_turn_law.specs.Running.{RunsBesideTheLaw};
 ghost use Rattle.pp_world.specs.Files.{Files};
 ghost use Rattle.pp_world.specs.Log.{Told};
@@ -17,10 +16,7 @@ use std::alloc::Global;
 /// it says that it served, or why it does not, obeys the law too, and may end there; and all that the laws say of such a log holds.
 pub fn run_beside_the_law<W: World>(alloc: Global, words: &[String], world: &mut W) -> Exit
     requires { Told (W.log world.old) (λ l. (files : Files) × IsFresh files l) }
-    ensures words { JudgesWords (map string_bytes words.now) result }
-    ensures told { EndsAs (map string_bytes words.now) result (W.log world.old) (W.log world.new) (W.faults world.old) (W.faults world.new) }
-    ensures served { ServingBy (map string_bytes words.now) result (HasServed (map string_bytes words.now) result (outside (W.log world.old) (W.top world.old) (W.faults world.old)) (outside (W.log world.new) (W.top world.new) (W.faults world.new))) }
-    ensures breaks { BreaksAs (map string_bytes words.now) result (outside (W.log world.old) (W.top world.old) (W.faults world.old)) (outside (W.log world.new) (W.top world.new) (W.faults world.new)) }
+    ensures runs { RunsAs (map string_bytes words.now) result (outside (W.log world.old) (W.top world.old) (W.faults world.old)) (outside (W.log world.new) (W.top world.new) (W.faults world.new)) }
     ensures beside { RunsBesideTheLaw words.now result (outside (W.log world.old) (W.top world.old) (W.faults world.old)) (outside (W.log world.new) (W.top world.new) (W.faults world.new)) }
 {
     served_lives_are_lawful();

@@ -1,5 +1,5 @@
 -- The exchange that begins is the law's, and with it the request waits for it as the law has it.
-use Rattle.std.proofs.Common.{◌≡◌, refl, sym, subst, ap, ap₂, ◌∙◌, ℕ, ◌%◌, Bool, true, false, ◌==◌, ◌&&◌, not, find, List, [], ◌∷◌, ◌++◌, Some, None, Option, option_map, Result, Ok, Err}
+use Rattle.std.proofs.Common.{◌≡◌, refl, sym, subst, ap, ap₂, ◌∙◌, ℕ, ◌%◌, Bool, true, false, ◌==◌, ◌&&◌, ◌||◌, not, find, List, [], ◌∷◌, ◌++◌, Some, None, Option, option_map, Result, Ok, Err}
 use Rattle.std.specs.Prelude.{is_some, slice_get, slice_set, ⊤}
 use Rattle.pp_ask.specs.declared.kind.AskKind.{AskKind}
 use Rattle.pp_ask.specs.Texts.{ask_text}
@@ -56,10 +56,11 @@ use Rattle.pp_states_law.specs.Decisions.{AsksOnce}
 use Rattle.pp_states_law.specs.States.{Parts as Whole, ShowsState}
 use Rattle.pp_target.specs.Key.{Key, key_in, text_of}
 use Rattle.pp_target.specs.declared.target.TargetFault.{TargetFault}
+use Rattle.pp_valid.specs.Codings.{accepts_only_identity}
 use Rattle.pp_valid.specs.declared.version.Version.{Version}
 use Rattle.pp_world.specs.declared.note.Decision.{Decision}
 use Rattle.pp_decide.specs.Decide.{kind_of, text_by}
-use Rattle.pp_take.specs.Deciding.{Ask, aim_for, ask_at, ask_for, asked_by, by_seat, asked_with, errand_by, exchange_begun, is_moved_in, is_pass, of_request, origin_asked}
+use Rattle.pp_take.specs.Deciding.{Ask, aim_for, ask_at, ask_for, asked_by, asks_hole, by_seat, asked_with, errand_by, exchange_begun, is_moved_in, is_pass, of_request, origin_asked}
 use Rattle.pp_state.specs.Ends.{AreInOrder, Parts, left_source, on_seat, source_of}
 use Rattle.pp_states_law.proofs.Places.{numbers_set}
 use Rattle.pp_states_law.proofs.Told.{are_told_on}
@@ -103,6 +104,14 @@ heads_asked b d a other passes same = by (law_pass d) passes
     by true is = ap (λ (t : Bool). t && a) is ∙ same
     by false is = ap (λ (t : Bool). t && a) is
 
+identity_asked : (b : Bool) (d : Decision) (wished : Bool) → b ≡ false
+    → (b || wished) ≡ (elim (elim (law_pass d) as (λ t. LawAim) [ true ↦ Through | false ↦ Own ]) as (λ t. Bool) [ Through ↦ wished | Own ↦ wished | Filling v from to ↦ true ])
+identity_asked b d wished whole = ap (λ (t : Bool). t || wished) whole ∙ by (law_pass d)
+  where
+    by : (c : Bool) → wished ≡ (elim (elim c as (λ t. LawAim) [ true ↦ Through | false ↦ Own ]) as (λ t. Bool) [ Through ↦ wished | Own ↦ wished | Filling v from to ↦ true ])
+    by true = refl
+    by false = refl
+
 key_named : (o : Option OwnedKey) (refusal : Option ℕ) (r : Parsed) (key : OwnedKey) → ShowsKey o refusal r → o ≡ Some key → r.key ≡ Ok (key_in key.text.items key.place)
 key_named None refusal r key shows is = absurd (none_some key is)
 key_named (Some other) refusal r key shows is = subst (λ (k : OwnedKey). r.key ≡ Ok (key_in k.text.items k.place)) (some_is other key is) shows.0
@@ -125,7 +134,7 @@ exchange_shows number begun n name d s seat c a key r kind next client left name
   asks_head = heads_asked (asks_as_asked kind) d a.is_head (is_head r.head.method) kinds.passed shows.is_head;
   is_safe = shows.is_safe;
   binds = shows.binds_connection;
-  identity = refl;
+  identity = identity_asked (asks_hole kind) d (accepts_only_identity r.head.fields) kinds.whole;
   guess = ap (λ (text : Bytes). allows_guess text r.head.fields) key.within.spelled;
   text = ap (λ (m : Bytes). ask_text (asked_as kind) r.head (key_in key.text.items key.place) m) named;
   asked = refl;

@@ -1,7 +1,7 @@
 -- Nothing is due of a client that is asleep.
 use Rattle.std.proofs.Common.{◌≡◌, refl, sym, ap, ap₂, ◌∙◌, ℕ, Bool, true, false, not, ◌&&◌, ◌||◌, find, nat_le, ◌-◌, [], ◌∷◌, Option, Some, None, option_map}
 use Rattle.pp_law.specs.Connections.{is_trying}
-use Rattle.pp_law.specs.Due.{Due, Decide, due_of, is_idle, is_short}
+use Rattle.pp_law.specs.Due.{Due, Decide, due_of, is_idle, is_short, patience}
 use Rattle.pp_law.specs.Lists.{Bytes, is_some_with}
 use Rattle.pp_law.specs.Requests.{NoHeadYet}
 use Rattle.pp_law.specs.Sharing.{is_patient}
@@ -41,7 +41,7 @@ not_begun : (c : Client) → c.stage ≡ Undecided → is_begun c ≡ false
 not_begun c is = ap (λ (t : Stage). is_some_with (λ (r : Reply). r.has_begun) (elim t as (λ b. Option Reply) [ Undecided ↦ None | Waiting ↦ None | Passing ↦ None | Answering r ↦ Some r ])) is
 
 not_idle : (s : State) (c : Client) → s.is_ticked ≡ false → is_idle s c ≡ false
-not_idle s c ticked = ap (λ (b : Bool). b && nat_le 120 (s.clock - c.mark)) ticked
+not_idle s c ticked = ap (λ (b : Bool). b && nat_le (patience c) (s.clock - c.mark)) ticked
 
 cut_none : (s : State) (c : Client) → c.stage ≡ Undecided → s.is_ticked ≡ false → cut_by s c (next_of s c) ≡ None
 unfolding cut_if

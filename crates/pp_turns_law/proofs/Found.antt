@@ -31,7 +31,7 @@ use Rattle.pp_valid.specs.declared.version.Version.{Version}
 use Rattle.pp_world.specs.declared.note.Decision.{Decision}
 use Rattle.pp_world.specs.declared.note.Decision.TheVariants.{Refuse, Hit, Part, Head, NotModified, Unsatisfiable, Relay, Validate, Fetch, Pass}
 use Rattle.pp_decide.specs.Decide.{fits, kind_of, text_by}
-use Rattle.pp_take.specs.Deciding.{Ask, ask_by, ask_for, ask_for_kind, by_asked, by_front, by_key, errand_by, is_pass as passes, of_request}
+use Rattle.pp_take.specs.Deciding.{Ask, asks_hole, ask_by, ask_for, ask_for_kind, by_asked, by_front, by_key, errand_by, is_pass as passes, of_request}
 
 -- ---- what is asked, by the request
 
@@ -138,19 +138,20 @@ pub record IsKindFor (head : Request) (row : Option Row) (d : Decision) (kind : 
   pub ranged : is_ranged_in kind ≡ is_range (asked_as kind)
   pub range : asks_range kind ≡ is_range (asked_as kind)
   pub passed : asks_as_asked kind ≡ is_pass d
+  pub whole : asks_hole kind ≡ false
 
 fetch_kinds : (head : Request) (row : Option Row) (range : Option (ℕ × Option ℕ)) → fetch_range head.fields ≡ range → IsKindFor head row Fetch (fetch_by range)
-fetch_kinds head row None is = record { law = ap (λ (k : AskKind). Some k) (rw (fetch_kind, is) refl); named = refl; ranged = refl; range = refl; passed = refl }
-fetch_kinds head row (Some r) is = record { law = ap (λ (k : AskKind). Some k) (rw (fetch_kind, is) refl); named = refl; ranged = refl; range = refl; passed = refl }
+fetch_kinds head row None is = record { law = ap (λ (k : AskKind). Some k) (rw (fetch_kind, is) refl); named = refl; ranged = refl; range = refl; passed = refl; whole = refl }
+fetch_kinds head row (Some r) is = record { law = ap (λ (k : AskKind). Some k) (rw (fetch_kind, is) refl); named = refl; ranged = refl; range = refl; passed = refl; whole = refl }
 
 check_kinds : (head : Request) (row : Option Row) (kind : Kind) → option_map (λ (v : Version). Check v.tag) (option_map (λ (r : Row). r.version) row) ≡ Some kind → IsKindFor head row Validate kind
 check_kinds head None kind is = absurd (none_some kind is)
-check_kinds head (Some r) kind is = subst (λ (k : Kind). IsKindFor head (Some r) Validate k) (some_is (Check r.version.tag) kind is) (record { law = refl; named = refl; ranged = refl; range = refl; passed = refl })
+check_kinds head (Some r) kind is = subst (λ (k : Kind). IsKindFor head (Some r) Validate k) (some_is (Check r.version.tag) kind is) (record { law = refl; named = refl; ranged = refl; range = refl; passed = refl; whole = refl })
 
 pub kinds_for : (head : Request) (row : Option Row) (d : Decision) (kind : Kind) → kind_of head (option_map (λ (r : Row). r.version) row) d ≡ Some kind → IsKindFor head row d kind
 kinds_for head row Fetch kind is = subst (λ (k : Kind). IsKindFor head row Fetch k) (some_is (fetch_by (fetch_range head.fields)) kind is) (fetch_kinds head row (fetch_range head.fields) refl)
 kinds_for head row Validate kind is = check_kinds head row kind is
-kinds_for head row Pass kind is = subst (λ (k : Kind). IsKindFor head row Pass k) (some_is AsPassed kind is) (record { law = refl; named = refl; ranged = refl; range = refl; passed = refl })
+kinds_for head row Pass kind is = subst (λ (k : Kind). IsKindFor head row Pass k) (some_is AsPassed kind is) (record { law = refl; named = refl; ranged = refl; range = refl; passed = refl; whole = refl })
 kinds_for head row Relay kind is = absurd (none_some kind is)
 kinds_for head row (Refuse status) kind is = absurd (none_some kind is)
 kinds_for head row (Hit from to) kind is = absurd (none_some kind is)

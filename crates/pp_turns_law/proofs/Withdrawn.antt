@@ -14,7 +14,7 @@ use Rattle.pp_peers.specs.declared.peers.Peer.{Peer}
 use Rattle.pp_peers_law.proofs.Finds.{is_alone_in, no_or, other_way}
 use Rattle.pp_peers_law.specs.Asked.{AreDistinct}
 use Rattle.pp_peers_law.specs.Peers.{has_alone, rest_of, rests_of, ShowsAsk, ShowsConn, ShowsLine, ShowsPipe}
-use Rattle.pp_pipe.specs.Asks.{size_of, total}
+use Rattle.pp_pipe.specs.Asks.{total}
 use Rattle.pp_pipe.specs.Line.{Line, is_begun_at, withdrawn_where, without_span}
 use Rattle.pp_pipe.specs.declared.asks.Ask.{Ask}
 use Rattle.pp_desk.specs.Closings.{unasked, unasked_in}
@@ -27,14 +27,17 @@ use Rattle.pp_state.specs.Ends.{place_of}
 abbrev rest_in : Option Exchange → Bytes
 rest_in o = elim o as (λ t. Bytes) [ None ↦ [] | Some e ↦ drop e.asked e.text ]
 
-sized : (asked left body len : ℕ) → asked + left ≡ len → body ≡ 0 → left + body ≡ len - asked
-sized asked left body len all none = omega (arith, all, none)
+sized : (asked left len : ℕ) → asked + left ≡ len → left ≡ len - asked
+sized asked left len all = omega (arith, all)
 
-as_long : (s : State) (n : ℕ) (ask : Ask) (e : Exchange) → exchange s n ≡ Some e → ShowsAsk ask e → size_of ask ≡ length (rest_of s n)
+as_long : (s : State) (n : ℕ) (ask : Ask) (e : Exchange) → exchange s n ≡ Some e → ShowsAsk ask e → ask.text_left ≡ length (rest_of s n)
 as_long s n ask e there shows =
-    sized e.asked ask.text_left ask.body_left (length e.text) shows.text shows.body
+    sized e.asked ask.text_left (length e.text) shows.text
     ∙ sym (length-drop e.asked e.text)
     ∙ sym (ap (λ (o : Option Exchange). length (rest_in o)) there)
+
+total_cons : (ask : Ask) (asks : List Ask) → total (ask ∷ asks) ≡ ask.text_left + total asks
+total_cons ask asks = sum_by-cons (λ (a : Ask). a.text_left) ask asks
 
 -- behind a text, a span is cut out as it is without
 span_behind : (size a b : ℕ) (text texts : Bytes) → size ≡ length text → without_span (size + a) (size + b) (text ++ texts) ≡ text ++ without_span a b texts
@@ -75,7 +78,7 @@ cut s m [] asks place once at shows = absurd (none_some place at)
 cut s m (n ∷ line) [] place once at shows = absurd shows
 cut s m (n ∷ line) (ask ∷ asks) place once at shows = by (n == m) refl at (λ i found. cut s m line asks i once.1 found shows.1)
   where
-    long : size_of ask ≡ length (rest_of s n)
+    long : ask.text_left ≡ length (rest_of s n)
     long = as_long s n ask shows.0.0 shows.0.1 shows.0.2
 
     here : (n == m) ≡ true → place ≡ 0 → IsCut s m place (n ∷ line) (ask ∷ asks)
@@ -90,7 +93,7 @@ cut s m (n ∷ line) (ask ∷ asks) place once at shows = by (n == m) refl at (�
           at = refl;
           shows = shows.0.2;
           line = subst (λ (ns : List ℕ). ShowsLine (end_exchange m s) ns asks) (sym others) (line_again s (end_exchange m s) line asks (asked_on s m line none) shows.1);
-          out = ap (λ (i : ℕ). without_span 0 i (rest_of s n ++ rests_of s line)) (sum_by-cons size_of ask []) ∙ span_first (size_of ask) (rest_of s n) (rests_of s line) long ∙ sym (ap (λ (ns : List ℕ). rests_of (end_exchange m s) ns) others ∙ rests_same s m line none);
+          out = ap (λ (i : ℕ). without_span 0 i (rest_of s n ++ rests_of s line)) (total_cons ask []) ∙ span_first ask.text_left (rest_of s n) (rests_of s line) long ∙ sym (ap (λ (ns : List ℕ). rests_of (end_exchange m s) ns) others ∙ rests_same s m line none);
         })
 
     later : (n == m) ≡ false → (i : ℕ) → IsCut s m i line asks → place ≡ suc i → IsCut s m place (n ∷ line) (ask ∷ asks)
@@ -105,8 +108,8 @@ cut s m (n ∷ line) (ask ∷ asks) place once at shows = by (n == m) refl at (�
           shows = rest.shows;
           line = subst (λ (ns : List ℕ). ShowsLine (end_exchange m s) ns (ask ∷ remove asks i)) (sym others) ((shows.0.0, still ∙ shows.0.1, shows.0.2), rest.line);
           out =
-              ap₂ (λ (a b : ℕ). without_span a b (rest_of s n ++ rests_of s line)) (sum_by-cons size_of ask (take i asks)) (ap (λ (j : ℕ). total (take j (ask ∷ asks))) (one_more i) ∙ sum_by-cons size_of ask (take (i + 1) asks))
-              ∙ span_behind (size_of ask) (total (take i asks)) (total (take (i + 1) asks)) (rest_of s n) (rests_of s line) long
+              ap₂ (λ (a b : ℕ). without_span a b (rest_of s n ++ rests_of s line)) (total_cons ask (take i asks)) (ap (λ (j : ℕ). total (take j (ask ∷ asks))) (one_more i) ∙ total_cons ask (take (i + 1) asks))
+              ∙ span_behind ask.text_left (total (take i asks)) (total (take (i + 1) asks)) (rest_of s n) (rests_of s line) long
               ∙ ap₂ (λ (o : Option Exchange) (t : Bytes). rest_in o ++ t) (sym still) rest.out
               ∙ sym (ap (λ (ns : List ℕ). rests_of (end_exchange m s) ns) others);
         })

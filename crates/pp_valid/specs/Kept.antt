@@ -12,17 +12,21 @@ use Rattle.pp_valid.specs.EndToEnd.{end_to_end_values}
 abbrev pub is_renewed : Field → Bool
 is_renewed field = is_named (codes "expires") field || is_named (codes "cache-control") field
 
--- what is written anew into each reply
-abbrev pub is_written_anew : Field → Bool
-is_written_anew field =
+-- a checksum of the content of its message, which may be a part of the body (RFC 2616, section 14.15; RFC 9530, section 2)
+abbrev pub is_checksum : Field → Bool
+is_checksum field = is_named (codes "content-md5") field || is_named (codes "content-digest") field
+
+-- what is written anew into each reply, or is in none
+abbrev pub is_of_one_message : Field → Bool
+is_of_one_message field =
     is_named (codes "content-length") field || is_named (codes "content-range") field || is_named (codes "age") field
-    || is_named (codes "date") field
+    || is_named (codes "date") field || is_checksum field
 
 abbrev pub is_renewed_of : List Field → Field → Bool
 is_renewed_of fields field = not (is_hop_by_hop fields field) && is_renewed field
 
 abbrev pub is_lasting_of : List Field → Field → Bool
-is_lasting_of fields field = not (is_hop_by_hop fields field) && not (is_written_anew field || is_renewed field)
+is_lasting_of fields field = not (is_hop_by_hop fields field) && not (is_of_one_message field || is_renewed field)
 
 -- the fields that stay as they are while the version does
 abbrev pub lasting_fields : List Field → List Field

@@ -2,7 +2,7 @@
 ghost use Rattle.std.specs.Prelude.{◌≡◌, ◌-◌, ◌^◌, ◌<◌, ◌≤◌, [], filter, length, min, nat_le, option_copied};
 ghost use Rattle.pp_text.specs.Fields.{field_at};
 ghost use Rattle.pp_text.specs.Lines.{line_of, lines_of};
-ghost use Rattle.pp_valid.specs.Kept.{date_line_len, date_value, has_room_for, is_of, is_renewed, is_written_anew};
+ghost use Rattle.pp_valid.specs.Kept.{date_line_len, date_value, has_room_for, is_checksum, is_of, is_of_one_message, is_renewed};
 
 use crate::end_to_end::is_dropped;
 use httpdate::HttpDate;
@@ -97,7 +97,7 @@ fn is_of(fields: &Fields<'_, '_>, kind: Lines, index: usize) -> bool
     let name = fields.name(index);
     match kind {
         Lines::Renewed => is_renewed(name),
-        Lines::Lasting => !(is_written_anew(name) || is_renewed(name)),
+        Lines::Lasting => !(is_of_one_message(name) || is_renewed(name)),
     }
 }
 
@@ -108,10 +108,20 @@ pub fn is_renewed(name: &[u8]) -> bool
     same(b"expires", name) || same(b"cache-control", name)
 }
 
-/// Whether each reply has a field of this name of its own.
-pub fn is_written_anew(name: &[u8]) -> bool
-    ensures { result ≡ is_written_anew (name.now, []) }
+/// Whether a field of this name is of one message, and not of the body: each reply has one of its own,
+/// or none.
+pub fn is_of_one_message(name: &[u8]) -> bool
+    ensures { result ≡ is_of_one_message (name.now, []) }
 {
     let is_length = same(b"content-length", name) || same(b"content-range", name);
-    is_length || same(b"age", name) || same(b"date", name)
+    let is_time = same(b"age", name) || same(b"date", name);
+    is_length || is_time || is_checksum(name)
+}
+
+/// Whether a field of this name is a checksum of what its message brings, which may be a part of the
+/// body (RFC 9530, section 2).
+fn is_checksum(name: &[u8]) -> bool
+    ensures { result ≡ is_checksum (name.now, []) }
+{
+    same(b"content-md5", name) || same(b"content-digest", name)
 }

@@ -25,7 +25,7 @@ mod versions; // from the head of a response to its version
 pub use codings::accepts_only_identity;
 pub use conditions::{if_range_holds, matches_none, names_other_tag, not_modified_since};
 pub use content_range::{ContentRange, read_content_range};
-pub use kept::{date_value, is_renewed, is_written_anew, line_len};
+pub use kept::{date_value, is_of_one_message, is_renewed, line_len};
 pub use tag::Tag;
 pub use tag_state::{TagState, tag_of};
 pub use version::Version;

@@ -6,7 +6,7 @@
 //! To the layer above: what is waited for is that of `specs/Awaited.antt`, and a wait changes clients, exchanges and connections as
 //! `specs/Rests.antt` says.
 //!
-//! What is waited for of clients is for `pp_steps`, and the wait itself for `pp_links`.
+//! What is waited for of clients is for `pp_due`, and the wait itself for `pp_links`.
 #![tactic(auto)]
 
 mod wants; // what is waited for

@@ -26,7 +26,7 @@ pub enum Decision {
     Pass,
 }
 
-/// Why a reply was cut short.
+/// Why a client was closed before its reply was whole, or before it had one.
 #[derive(Clone, Copy, Debug, PartialEq, Eq)]
 pub enum Cause {
     /// Another version took the place of the one that was being sent.
@@ -35,7 +35,7 @@ pub enum Cause {
     Origin,
     /// A passed response ended early.
     Short,
-    /// The client took no byte for too long.
+    /// The client neither sent nor took a byte for too long.
     Idle,
     /// Memory was asked for and not given.
     Memory,
@@ -48,7 +48,7 @@ pub enum Cause {
 pub enum Note<'a> {
     /// The client, the number of its request from 0, and what was decided for it.
     Taken(u64, u64, Decision),
-    /// The client whose reply was cut.
+    /// The client that is closed before its reply is whole, or before it has one, and why.
     Cut(u64, Cause),
     /// Key, tag, total length, and the length of the front that is kept on disk.
     Kept(&'a [u8], &'a [u8], u64, u64),

@@ -5,7 +5,7 @@ use pp_world::{CONFIG_READ_LEN, ConfigFault, Wire};
 use std::alloc::Global;
 use std::cell::Cell;
 use std::io::ErrorKind;
-use std::net::{Ipv4Addr, Net, SocketAddr, TcpListener, TcpStream};
+use std::net::{Ipv4Addr, Ipv6Addr, Net, SocketAddr, TcpListener, TcpStream};
 use std::{fs, io};
 
 // What is read of a configuration file with this text.
@@ -41,10 +41,43 @@ fn a_configuration_is_read_up_to_its_limit(rt: HostRuntime) {
     assert!(rt; matches!(config(&rt, "no.conf"), Err(ConfigFault::Unreadable)));
 }
 
-// A system that knows one name, and counts how often it is asked.
+// A system that knows two names, and counts how often it is asked. The addresses of `many` turn round each time.
 #[derive(Drop)]
 struct Resolver {
     asked: Cell<u32>,
+}
+
+/// An address of either version, by its last part.
+#[derive(Clone, Copy)]
+enum At {
+    V4(u8),
+    V6(u16),
+}
+
+impl At {
+    fn address(self, port: u16) -> SocketAddr {
+        match self {
+            At::V4(last) => SocketAddr::from((Ipv4Addr::new(10, 0, 0, last), port)),
+            At::V6(last) => SocketAddr::from((Ipv6Addr::new(0xfd00, 0, 0, 0, 0, 0, 0, last), port)),
+        }
+    }
+}
+
+const KNOWN: &[At] = &[At::V4(1)];
+
+const MANY: &[At] = &[At::V6(1), At::V4(1), At::V4(2), At::V4(1), At::V6(2)];
+
+const TURNED: &[At] = &[At::V4(2), At::V4(1), At::V6(2), At::V6(1)];
+
+impl Resolver {
+    fn addresses(&self, host: &str) -> &'static [At] {
+        match host {
+            "known" => KNOWN,
+            "many" if self.asked.get() % 2 == 0 => TURNED,
+            "many" => MANY,
+            _ => &[],
+        }
+    }
 }
 
 impl Net for Resolver {
@@ -62,11 +95,15 @@ impl Net for Resolver {
 
     fn lookup_host(&self, host: &str, port: u16, found: &mut [SocketAddr]) -> io::Result<usize> {
         self.asked.set(self.asked.get().saturating_add(1));
-        if host != "known" || found.is_empty() {
+        let addresses = self.addresses(host);
+        if addresses.is_empty() {
             return Err(io::Error::from(ErrorKind::NotFound));
         }
-        found[0] = SocketAddr::from((Ipv4Addr::new(10, 0, 0, 1), port));
-        Ok(1)
+        let count = addresses.len().min(found.len());
+        for (place, at) in found.iter_mut().zip(addresses) {
+            *place = at.address(port);
+        }
+        Ok(count)
     }
 }
 
@@ -95,7 +132,7 @@ fn first_otherwise_by(hosts: &mut Hosts) -> Option<usize> {
         asked: Cell::new(0),
     };
     for (place, (name, now, is_found, asked)) in NAMES.iter().enumerate() {
-        let found = hosts.address(&system, name, *now).is_ok();
+        let found = hosts.address(&system, name, 80, *now).is_ok();
         if found != *is_found || system.asked.get() != *asked {
             return Some(place);
         }
@@ -106,6 +143,65 @@ fn first_otherwise_by(hosts: &mut Hosts) -> Option<usize> {
 #[test]
 fn a_name_is_looked_up_once_in_some_seconds_and_an_address_never(rt: HostRuntime) {
     assert_eq!(rt; first_found_otherwise(rt.alloc()), None);
+}
+
+/// What is done with an address that was dialled.
+enum Went {
+    Well,
+    Badly,
+}
+
+/// The port of `many`, the second, the address that is dialled, and how that goes.
+const DIALS: &[(u16, u64, At, Went)] = &[
+    // those of IPv4 first, and each once
+    (80, 100, At::V4(1), Went::Badly),
+    (80, 100, At::V4(2), Went::Badly),
+    (80, 101, At::V6(1), Went::Well),
+    (80, 102, At::V6(1), Went::Badly),
+    (80, 102, At::V6(2), Went::Badly),
+    // all failed, and it begins again
+    (80, 103, At::V4(1), Went::Badly),
+    (80, 104, At::V4(2), Went::Well),
+    // another port, whose addresses come in another order
+    (81, 104, At::V4(2), Went::Badly),
+    (81, 104, At::V4(1), Went::Well),
+    (80, 104, At::V4(2), Went::Badly),
+    (80, 104, At::V6(1), Went::Well),
+    // the system is asked anew, and what is dialled stays so, also where the order changed
+    (80, 105, At::V6(1), Went::Badly),
+    (80, 105, At::V6(2), Went::Well),
+    (80, 110, At::V6(2), Went::Badly),
+    (80, 110, At::V6(1), Went::Well),
+];
+
+// The first dial that goes elsewhere.
+fn first_dial_elsewhere(alloc: Global) -> Option<usize> {
+    match Hosts::new(alloc) {
+        Ok(mut hosts) => first_dial_elsewhere_by(&mut hosts),
+        Err(_) => Some(DIALS.len()),
+    }
+}
+
+fn first_dial_elsewhere_by(hosts: &mut Hosts) -> Option<usize> {
+    let system = Resolver {
+        asked: Cell::new(0),
+    };
+    for (place, (port, now, wanted, went)) in DIALS.iter().enumerate() {
+        let wanted = wanted.address(*port);
+        match hosts.address(&system, "many", *port, *now) {
+            Ok(address) if address == wanted => {}
+            _ => return Some(place),
+        }
+        if let Went::Badly = went {
+            hosts.pass_over(wanted);
+        }
+    }
+    None
+}
+
+#[test]
+fn an_address_that_fails_is_passed_over_and_one_that_does_not_stays(rt: HostRuntime) {
+    assert_eq!(rt; first_dial_elsewhere(rt.alloc()), None);
 }
 
 /// What the system's clock shows, and the second that is told.

@@ -1,5 +1,5 @@
--- A row that was made, or brought into memory, is there.
-use Rattle.std.proofs.Common.{◌≡◌, ◌⊎◌, refl, ℕ, Bool, true, false, not, ◌&&◌, ◌==◌, List, [], ◌∷◌, ◌++◌, map, filter, find, cond, bytes_eq, Option, Some, None, inl, inr, sym, ap, ◌∙◌, option_map}
+-- A row that was made, brought into memory or marked is there.
+use Rattle.std.proofs.Common.{◌≡◌, ◌⊎◌, refl, ℕ, Bool, true, false, not, List, [], ◌∷◌, ◌++◌, map, filter, find, cond, bytes_eq, Option, Some, None, inl, inr, sym, ap, ◌∙◌, option_map}
 use Rattle.std.proofs.lemmas.Slice.Eq.{bytes_eq-Decides}
 use Rattle.pp_fresh.specs.declared.aging.Times.{Times}
 use Rattle.pp_head.specs.Response.{Response}
@@ -7,8 +7,8 @@ use Rattle.pp_text.specs.Fields.{Field}
 use Rattle.pp_valid.specs.declared.version.Version.{Version}
 use Rattle.pp_law.specs.Lists.{Bytes}
 use Rattle.pp_law.specs.OwnHeads.{key_of, known_version, renew, renew_row, renewed, times_for}
-use Rattle.pp_law.specs.State.{State, Entry, Exchange, Instance}
-use Rattle.pp_law.specs.Table.{add_row, clear, enter, is_instance, is_row_of, row_on_disk, make_row, mark_row, on_instance, row, with_room}
+use Rattle.pp_law.specs.State.{State, Exchange, Instance}
+use Rattle.pp_law.specs.Table.{add_row, clear, is_instance, is_row_of, make_row, mark_row, on_instance, row, with_room}
 use Rattle.pp_laws.specs.Runs.{IsIn}
 use Rattle.pp_laws.proofs.Lists.{changed_at, in_find, in_front}
 
@@ -17,7 +17,7 @@ HasRow key s = row s key ≡ None → ⊥
 
 -- ---- in lists
 
-found : {A : Type 0} (p : A → Bool) (x : A) (xs : List A) → IsIn x xs → p x ≡ true → find p xs ≡ None → ⊥
+pub found : {A : Type 0} (p : A → Bool) (x : A) (xs : List A) → IsIn x xs → p x ≡ true → find p xs ≡ None → ⊥
 found p x [] i is none = i
 found p x (y ∷ ys) i is none = by (p y) refl none i (λ rest j. found p x ys j is rest)
   where
@@ -62,13 +62,21 @@ moved_in p x xs i = by (p x) refl
 same_text : (key : Bytes) → bytes_eq key key ≡ true
 same_text key = (bytes_eq-Decides key key).1 refl
 
-add_row-has : (key : Bytes) (version : Version) (fields : List Field) (times : Times) (is_new : Bool) (s : State) → HasRow key (add_row key version fields times is_new s)
+pub add_row-has : (key : Bytes) (version : Version) (fields : List Field) (times : Times) (is_new : Bool) (s : State) → HasRow key (add_row key version fields times is_new s)
 unfolding add_row
 add_row-has key version fields times is_new s none = found (is_row_of key) _ _ (last _ s.instances) (same_text key) none
 
 pub make_row-has : (key : Bytes) (version : Version) (fields : List Field) (times : Times) (s : State) → HasRow key (make_row key version fields times s)
 unfolding make_row
 make_row-has key version fields times s = add_row-has key version fields times true (with_room (clear key s))
+
+pub mark_row-has : (key : Bytes) (id : ℕ) (s : State) → HasRow key s → HasRow key (mark_row id s)
+unfolding mark_row
+mark_row-has key id s has = by (row s key) refl
+  where
+    by : (o : Option Instance) → row s key ≡ o → HasRow key (mark_row id s)
+    by None is none = has is
+    by (Some x) is none = let there = in_find (is_row_of key) x s.instances is in found (is_row_of key) x _ (moved_in (is_instance id) x s.instances there.0) there.1 none
 
 renew-has : (key : Bytes) (x : Instance) (head : Response) (times : Times) (s : State) → IsIn x s.instances → is_row_of key x ≡ true → HasRow key (renew x head times s)
 unfolding renew mark_row on_instance
